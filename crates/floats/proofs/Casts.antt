@@ -1,0 +1,178 @@
+-- `x as u8` and other casts to unsigned integers: they keep the order, and x is at least a whole number k in the range exactly when its cast is.
+-- So a cast is found by tests, and tests of a cast by the cast. Assumes nothing.
+use mathlib.Core.Path.{_≡_, refl, sym, _∙_, subst}
+use Prim.Native.Nat.{ℕ, zero, suc, _+_, _-_, _*_, _/_, _^_, _≤_, _<_, min}
+use native.Mathlib.Nat.{mul-one, mul-pos, zero-mul, le-div-iff-mul-le}
+use native.Mathlib.Omega.{arith}
+use mathlib.Core.Bool.{Bool, true, false, not, _&&_, _||_, cond}
+use lib.IntN.{pos}
+use lib.Dec.{T, leb, ltb, eqb, leb→le, le→leb, eqb→eq, lit<, lit≤}
+use lib.Ieee.{Float, nan, inf, fin, up, down, lt, le, ofBits, isNan, toUnsigned}
+use lib.Ieee.Fits.{down-pos, and-l, and-r}
+use lib.Ieee.Nearest.{div-mono}
+use lib.Ieee.Casts.{toUnsigned-lt}
+use borrow.Author.Tests.{le-leb, lt-leb, leb-true, leb-false}
+use Rattle.floats.specs.Arithmetic.{bits, f1, f255}
+use Rattle.floats.specs.Helpers.{byteOf, byteUpTo7}
+use Rattle.floats.proofs.Tests.{so, iff, clash, leb-not-ltb}
+use Rattle.floats.proofs.Fractions.{le-plain}
+use Rattle.floats.proofs.Order.{le-right, lt-of-not, lt-trans, lt-le-trans}
+
+-- ---- a cast keeps the order
+less-min : (p q c : ℕ) → p ≤ q → min p c ≤ min q c
+less-min p q c h = omega arith
+
+zero-min : (p q c : ℕ) → p ≡ 0 → min p c ≤ q
+zero-min p q c h = omega arith
+
+at-most : (p c : ℕ) → min p c ≤ c
+at-most p c = omega arith
+
+from-zero : (n : ℕ) → 0 ≤ n
+from-zero n = omega arith
+
+pub plain-le : (a b : ℕ) → (ltb a b || (eqb a b && true)) ≡ true → a ≤ b
+plain-le a b h = leb-true a b (sym (leb-not-ltb a b) ∙ sym (le-plain a b) ∙ h)
+
+pub cast-mono : (w : ℕ) (x y : Float) → le x y ≡ true → toUnsigned w x ≤ toUnsigned w y
+unfolding le lt toUnsigned
+cast-mono w nan y h = clash h refl
+cast-mono w (inf true) y h = from-zero _
+cast-mono w (inf false) nan h = clash h refl
+cast-mono w (inf false) (inf true) h = clash h refl
+cast-mono w (inf false) (inf false) h = omega arith
+cast-mono w (inf false) (fin t n d) h = clash h refl
+cast-mono w (fin true m e) y h = from-zero _
+cast-mono w (fin false m e) nan h = clash h refl
+cast-mono w (fin false m e) (inf true) h = clash h refl
+cast-mono w (fin false m e) (inf false) h = at-most (m * up e / down e) (2 ^ w - 1)
+cast-mono w (fin false m e) (fin true n d) h =
+    let z : m * up e * down d ≡ 0 = eqb→eq _ _ (and-r (eqb (m * up e * down d) (n * up d * down e)) (eqb (m * up e * down d) 0) (so h)) in
+    let q : m * up e / down e ≤ 0 / 1 = div-mono (m * up e) (down e) 0 1 (down-pos e) (lit< tt) (none (m * up e) (down d) (down e) (down-pos d) z) in
+    zero-min (m * up e / down e) 0 (2 ^ w - 1) (nothing _ q)
+  where
+    none : (a d p : ℕ) → 0 < d → a * d ≡ 0 → a * 1 ≤ 0 * p
+    none zero d p D z = omega arith
+    none (suc a) d p D z = absurd (some (suc a * d) (mul-pos (one-more a) D) z)
+      where
+        one-more : (a : ℕ) → 0 < suc a
+        one-more a = omega arith
+        some : (n : ℕ) → 0 < n → n ≡ 0 → ⊥
+        some n h e = omega arith
+    nothing : (n : ℕ) → n ≤ 0 → n ≡ 0
+    nothing n h = omega arith
+cast-mono w (fin false m e) (fin false n d) h =
+    less-min (m * up e / down e) (n * up d / down d) (2 ^ w - 1)
+    (div-mono (m * up e) (down e) (n * up d) (down d) (down-pos e) (down-pos d) (plain-le (m * up e * down d) (n * up d * down e) h))
+
+pub byteOf-mono : (x y : Float) → le x y ≡ true → byteOf x ≤ byteOf y
+byteOf-mono x y h = cast-mono 8 x y h
+
+pub byteOf-le : (x : Float) → byteOf x ≤ 255
+byteOf-le x = let h : byteOf x < 2 ^ 8 = toUnsigned-lt 8 x in omega arith
+
+-- ---- the test against a whole number k in the range
+none : (k : ℕ) → 0 < k → false ≡ leb k 0
+none k h = sym (lt-leb k 0 h)
+
+all : (k c : ℕ) → k < c → true ≡ leb k (c - 1)
+all k c h = sym (le-leb k (c - 1) (omega arith))
+
+cap : (k q c : ℕ) → k < c → k ≤ min q (c - 1) → k ≤ q
+cap k q c h g = omega arith
+
+uncap : (k q c : ℕ) → k < c → k ≤ q → k ≤ min q (c - 1)
+uncap k q c h g = omega arith
+
+-- k ≤ X / D
+cut : (w k X D : ℕ) → 0 < D → k < 2 ^ w → leb (k * D) (X * 1) ≡ leb k (min (X / D) (2 ^ w - 1))
+cut w k X D d h =
+    iff _ _
+    (λ g. le→leb _ _ (uncap k (X / D) (2 ^ w) h (le-div-iff-mul-le d .1 (subst (λ (n : ℕ). k * D ≤ n) (mul-one X) (leb→le _ _ g)))))
+    (λ g. le→leb _ _ (subst (λ (n : ℕ). k * D ≤ n) (sym (mul-one X)) (le-div-iff-mul-le d .0 (cap k (X / D) (2 ^ w) h (leb→le _ _ g)))))
+
+opposite : (k D b : ℕ) → 0 < k * D → (eqb (k * D) b && eqb (k * D) 0) ≡ false
+opposite k D b h = iff _ false (λ g. no (k * D) h (eqb→eq (k * D) 0 (and-r (eqb (k * D) b) (eqb (k * D) 0) g))) (λ g. absurd g)
+  where
+    no : (a : ℕ) → 0 < a → a ≡ 0 → ⊥
+    no a h e = omega arith
+
+-- k is the float n * 2 ^ j
+pub threshold : (w n j : ℕ) (x : Float) → 0 < n * 2 ^ j → n * 2 ^ j < 2 ^ w → le (fin false n (pos j)) x ≡ leb (n * 2 ^ j) (toUnsigned w x)
+unfolding le lt toUnsigned
+threshold w n j nan h g = none (n * 2 ^ j) h
+threshold w n j (inf true) h g = none (n * 2 ^ j) h
+threshold w n j (inf false) h g = all (n * 2 ^ j) (2 ^ w) g
+threshold w n j (fin true m e) h g = opposite (n * 2 ^ j) (down e) (m * up e * 1) (mul-pos h (down-pos e)) ∙ none (n * 2 ^ j) h
+threshold w n j (fin false m e) h g =
+    le-plain (n * 2 ^ j * down e) (m * up e * 1) ∙ leb-not-ltb (n * 2 ^ j * down e) (m * up e * 1) ∙ cut w (n * 2 ^ j) (m * up e) (down e) (down-pos e) g
+
+-- ---- a cast by counting the tests that pass
+abbrev count : ℕ → ℕ → ℕ
+count zero n = 0
+count (suc k) n = count k n + cond (leb (suc k) n) 1 0
+
+count-is : (k n : ℕ) → count k n ≡ min n k
+count-is zero n = omega arith
+count-is (suc k) n = more (leb (suc k) n) refl (count-is k n)
+  where
+    more : (b : Bool) → leb (suc k) n ≡ b → count k n ≡ min n k → count k n + cond b 1 0 ≡ min n (suc k)
+    more true e h = let g : suc k ≤ n = leb-true (suc k) n e in omega arith
+    more false e h = let g : n < suc k = leb-false (suc k) n e in omega arith
+
+-- the literals 1.0 to 7.0
+abbrev pub seven : Float → ℕ
+seven x =
+    cond (le f1 x) 1 0 + cond (le (bits 0x4000_0000) x) 1 0 + cond (le (bits 0x4040_0000) x) 1 0 + cond (le (bits 0x4080_0000) x) 1 0
+    + cond (le (bits 0x40a0_0000) x) 1 0 + cond (le (bits 0x40c0_0000) x) 1 0 + cond (le (bits 0x40e0_0000) x) 1 0
+
+at-1 : (x : Float) → le f1 x ≡ leb 1 (byteOf x)
+unfolding ofBits
+at-1 x = threshold 8 1 0 x (lit< tt) (lit< tt)
+
+tests : (x : Float) →
+    (le (bits 0x4000_0000) x ≡ leb 2 (byteOf x)) × (le (bits 0x4040_0000) x ≡ leb 3 (byteOf x)) × (le (bits 0x4080_0000) x ≡ leb 4 (byteOf x))
+    × (le (bits 0x40a0_0000) x ≡ leb 5 (byteOf x)) × (le (bits 0x40c0_0000) x ≡ leb 6 (byteOf x)) × (le (bits 0x40e0_0000) x ≡ leb 7 (byteOf x))
+unfolding ofBits
+tests x =
+    (threshold 8 1 1 x (lit< tt) (lit< tt), threshold 8 3 0 x (lit< tt) (lit< tt), threshold 8 1 2 x (lit< tt) (lit< tt),
+    threshold 8 5 0 x (lit< tt) (lit< tt), threshold 8 3 1 x (lit< tt) (lit< tt), threshold 8 7 0 x (lit< tt) (lit< tt))
+
+pub seven-is : (x : Float) → seven x ≡ byteUpTo7 x
+seven-is x =
+    let t = tests x in
+    rw (at-1 x, t .0, t .1, t .2, t .3, t .4, t .5) (omega (arith, count-is 7 (byteOf x)))
+
+-- ---- the cast to a byte, by way of 64 bits
+at-255 : (x : Float) → le f255 x ≡ leb 255 (byteOf x)
+unfolding ofBits
+at-255 x = threshold 8 255 0 x (lit< tt) (lit< tt)
+
+pub byte-full : (x : Float) → le f255 x ≡ true → 255 ≡ byteOf x
+byte-full x h = let g : 255 ≤ byteOf x = leb-true _ _ (sym (at-255 x) ∙ h) in let l : byteOf x ≤ 255 = byteOf-le x in omega arith
+
+pub byte-empty : (x : Float) → le f1 x ≡ false → 0 ≡ byteOf x
+byte-empty x h = let g : byteOf x < 1 = leb-false _ _ (sym (at-1 x) ∙ h) in omega arith
+
+pub byte-narrow : (x : Float) → byteOf x ≡ min (toUnsigned 64 x) 255
+unfolding toUnsigned
+byte-narrow nan = refl
+byte-narrow (inf true) = refl
+byte-narrow (inf false) = refl
+byte-narrow (fin true m e) = refl
+byte-narrow (fin false m e) = caps (m * up e / down e) (2 ^ 8 - 1) (2 ^ 64 - 1) (lit≤ tt)
+  where
+    caps : (q a b : ℕ) → a ≤ b → min q a ≡ min (min q b) a
+    caps q a b h = omega arith
+
+pub byte-under : (x : Float) → le f255 x ≡ false → toUnsigned 64 x < 255
+byte-under x h = let g : byteOf x < 255 = leb-false _ _ (sym (at-255 x) ∙ h) in omega (arith, byte-narrow x)
+
+-- what std's truncation asks of an x from 1 to below 255
+pub cut-low : (x : Float) → le f1 x ≡ true → T (lt (fin true 1 (pos 0)) x)
+unfolding lt ofBits
+cut-low x h = so (lt-le-trans (fin true 1 (pos 0)) f1 x refl h)
+
+pub cut-high : (x : Float) → le f1 x ≡ true → le f255 x ≡ false → T (lt x (fin false 1 (pos 64)))
+unfolding lt ofBits isNan
+cut-high x h g = so (lt-trans x f255 (fin false 1 (pos 64)) (lt-of-not x f255 (le-right f1 x h) refl g) refl)

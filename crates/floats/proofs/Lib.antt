@@ -1,0 +1,10 @@
+pub mod Tests
+pub mod Fractions
+pub mod Order
+pub mod Table
+pub mod Casts
+pub mod Signs
+pub mod WholePart
+pub mod Scan
+pub mod Ranges
+pub mod Bounds

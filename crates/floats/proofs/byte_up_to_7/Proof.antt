@@ -1,0 +1,65 @@
+use Rattle.floats.proofs.Casts.{seven-is}
+use borrow.Author.Needs.{needs}
+use Rattle.floats.proofs.byte_up_to_7.Statement.{statement}
+use Rattle.floats.proofs.byte_up_to_7.Tie as tie
+
+one-if-requires : tie.Need-one-if-requires
+one-if-requires c κs = search needs
+
+one-if-requires-2 : tie.Need-one-if-requires-2
+one-if-requires-2 c κs = search needs
+
+add-result : tie.Need-add-result
+add-result c = search needs
+
+one-if-requires-3 : tie.Need-one-if-requires-3
+one-if-requires-3 c κs = search needs
+
+add-result-2 : tie.Need-add-result-2
+add-result-2 c = search needs
+
+one-if-requires-4 : tie.Need-one-if-requires-4
+one-if-requires-4 c κs = search needs
+
+add-result-3 : tie.Need-add-result-3
+add-result-3 c = search needs
+
+one-if-requires-5 : tie.Need-one-if-requires-5
+one-if-requires-5 c κs = search needs
+
+add-result-4 : tie.Need-add-result-4
+add-result-4 c = search needs
+
+one-if-requires-6 : tie.Need-one-if-requires-6
+one-if-requires-6 c κs = search needs
+
+add-result-5 : tie.Need-add-result-5
+add-result-5 c = search needs
+
+one-if-requires-7 : tie.Need-one-if-requires-7
+one-if-requires-7 c κs = search needs
+
+add-result-6 : tie.Need-add-result-6
+add-result-6 c = search needs
+
+returns : tie.Need-returns
+returns c = cc (seven-is (c .before .before .before .before .before .before .before .args .x))
+
+pub byte-up-to-7-spec : {M : Type 1} → statement M
+byte-up-to-7-spec =
+    tie.close
+    (tie.spec
+    one-if-requires
+    one-if-requires-2
+    add-result
+    one-if-requires-3
+    add-result-2
+    one-if-requires-4
+    add-result-3
+    one-if-requires-5
+    add-result-4
+    one-if-requires-6
+    add-result-5
+    one-if-requires-7
+    add-result-6
+    returns)

@@ -1,0 +1,4 @@
+pub mod Arithmetic
+pub mod Helpers
+pub mod Scan
+pub mod Bounds

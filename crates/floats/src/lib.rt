@@ -1,0 +1,102 @@
+// What the Rust does by methods of f32 and of glam's Vec4, one lane at a time.
+ghost use mathlib.Core.Path.{_≡_};
+ghost use mathlib.Core.Bool.{cond};
+ghost use Prim.Native.Nat.{_≤_};
+ghost use Rattle.floats.specs.Helpers.{absOf, minOf, maxOf, laneMin, laneMax, clampOf, entryClamp, truncOf, byteOf, byteUpTo7};
+
+// The Rust's (f32, f32).
+pub struct Pair(pub f32, pub f32);
+
+// a where t holds, and b elsewhere: the one branch on floats, which compiles to a select.
+pub fn pick(t: bool, a: f32, b: f32) -> f32
+    ensures { λ r. ⌜ r ≡ cond t a b ⌝ }
+{
+    if t { a } else { b }
+}
+
+pub fn abs(x: f32) -> f32
+    ensures { λ r. ⌜ r ≡ absOf x ⌝ }
+{
+    pick(x < 0.0, -x, pick(x == 0.0, 0.0, x))
+}
+
+pub fn min(a: f32, b: f32) -> f32
+    ensures { λ r. ⌜ r ≡ minOf a b ⌝ }
+{
+    pick((b < a) | (a != a), b, a)
+}
+
+pub fn max(a: f32, b: f32) -> f32
+    ensures { λ r. ⌜ r ≡ maxOf a b ⌝ }
+{
+    pick((a < b) | (a != a), b, a)
+}
+
+pub fn lane_min(a: f32, b: f32) -> f32
+    ensures { λ r. ⌜ r ≡ laneMin a b ⌝ }
+{
+    pick(a < b, a, b)
+}
+
+pub fn lane_max(a: f32, b: f32) -> f32
+    ensures { λ r. ⌜ r ≡ laneMax a b ⌝ }
+{
+    pick(a > b, a, b)
+}
+
+// f32::clamp(0.0, 1.0).
+pub fn clamp(x: f32) -> f32
+    ensures { λ r. ⌜ r ≡ clampOf x ⌝ }
+{
+    pick(x < 0.0, 0.0, pick(x > 1.0, 1.0, x))
+}
+
+pub fn entry_clamp(x: f32) -> f32
+    ensures { λ r. ⌜ r ≡ entryClamp x ⌝ }
+{
+    lane_min(lane_max(x, 0.0), 1.0)
+}
+
+// From 2^23 on every f32 is whole; below, the cast to an integer and back drops the fraction, and the sign is put back.
+pub fn trunc(x: f32) -> f32
+    ensures { λ r. ⌜ r ≡ truncOf x ⌝ }
+{
+    let size = abs(x);
+    if size < 8388608.0 {
+        let whole = std::num::truncating_f32_to_u64(size) as f32;
+        return pick(x < 0.0, -whole, pick(x == 0.0, x, whole));
+    }
+    x
+}
+
+// Rust's `x as u8`. The tests stand before the cast because std's truncation asks for a finite x in range.
+pub fn byte_of(x: f32) -> u8
+    ensures { λ r. ⌜ r ≡ byteOf x ⌝ }
+{
+    if x >= 255.0 {
+        return 255;
+    }
+    if x >= 1.0 {
+        return std::num::truncating_f32_to_u64(x) as u8;
+    }
+    0
+}
+
+fn one_if(t: bool) -> u8
+    ensures { λ r. ⌜ (r ≡ cond t 1 0) × (r ≤ 1) ⌝ }
+{
+    if t { 1 } else { 0 }
+}
+
+// `(x as u8).min(7)` as the number of whole numbers from 1 to 7 that x reaches: no cast, so that a loop over samples vectorises.
+pub fn byte_up_to_7(x: f32) -> u8
+    ensures { λ r. ⌜ r ≡ byteUpTo7 x ⌝ }
+{
+    one_if(x >= 1.0)
+        + one_if(x >= 2.0)
+        + one_if(x >= 3.0)
+        + one_if(x >= 4.0)
+        + one_if(x >= 5.0)
+        + one_if(x >= 6.0)
+        + one_if(x >= 7.0)
+}
