@@ -5,14 +5,16 @@ use Prim.Native.Nat.{ℕ, _+_, _-_, _*_, _^_, _≤_, _<_}
 use native.Mathlib.Nat.{le-trans, le-of-eq, mul-comm, mul-assoc, mul-right-comm, mul-left-comm, mul-one, add-mul, mul-le-mul, mul-le-mul-right, le-of-mul-le-mul-right, mul-pos, zero-lt-suc}
 use native.Mathlib.Omega.{arith}
 use mathlib.Core.Bool.{Bool, true, false, _&&_, cond, Bool·beq, true≢false}
-use lib.Dec.{T, ltb}
-use lib.Ieee.{Float, nan, inf, fin, Format, prec, up, down, round, neg, sum, add, sub, mul, lt, le, unlike, isNan}
+use lib.Dec.{T, ltb, eqb, eqb→eq}
+use lib.Ieee.{Float, nan, inf, fin, Format, prec, up, down, round, neg, sum, add, sub, mul, lt, le, unlike, isNan, ofBits}
 use lib.Ieee.Bits.{is-true}
-use lib.Ieee.Fits.{down-pos}
+use lib.Ieee.Fits.{down-pos, and-l}
 use lib.Ieee.Exact.{HasValue}
 use lib.Ieee.Order.{round-mono}
 use lib.Ieee.Back.{round-whole}
+use Rattle.floats.specs.Arithmetic.{f0, f1}
 use Rattle.floats.specs.Bounds.{Within}
+use Rattle.floats.proofs.Tests.{so, clash}
 use Rattle.floats.proofs.Casts.{plain-le}
 use Rattle.floats.proofs.Signs.{SignedBy, round-signed, round-mirror}
 
@@ -102,15 +104,33 @@ mul-within f A B (fin s m e) (fin t n d) k p q =
     round-within f (unlike s t) (m * up e * (n * up d)) (down e * down d) (A * B) (mul-pos (down-pos e) (down-pos d))
     (le-trans (mul-le-mul p q) (le-of-eq (simp (mul-assoc, mul-comm, mul-left-comm)))) k
 
--- below infinity
+-- ---- what a bound says
+pub within-real : (B : ℕ) (x : Float) → Within B x → isNan x ≡ false
+unfolding isNan
+within-real B nan p = absurd p
+within-real B (inf s) p = absurd p
+within-real B (fin s m e) p = refl
+
 pub below-inf : (B : ℕ) (x : Float) → Within B x → lt x (inf false) ≡ true
 unfolding lt
 below-inf B nan p = absurd p
 below-inf B (inf s) p = absurd p
 below-inf B (fin s m e) p = refl
 
--- a larger bound
+-- a larger bound will do
 pub within-up : (A B : ℕ) (x : Float) → A ≤ B → Within A x → Within B x
 within-up A B nan h p = p
 within-up A B (inf s) h p = p
 within-up A B (fin s m e) h p = le-trans p (mul-le-mul-right (down e) h)
+
+-- ---- a value in 0..1 is within 1
+pub unit-within : (x : Float) → le f0 x ≡ true → le x f1 ≡ true → Within 1 x
+unfolding le lt ofBits
+unit-within nan p q = clash p refl
+unit-within (inf true) p q = clash p refl
+unit-within (inf false) p q = clash q refl
+unit-within (fin true m e) p q = zero-size (m * up e) (down e) (so p)
+  where
+    zero-size : (n d : ℕ) → T (eqb (0 * d) (n * 1) && eqb (0 * d) 0) → n ≤ 1 * d
+    zero-size n d h = let z : 0 * d ≡ n * 1 = eqb→eq _ _ (and-l (eqb (0 * d) (n * 1)) (eqb (0 * d) 0) h) in omega arith
+unit-within (fin false m e) p q = let k : m * up e * 1 ≤ 1 * 1 * down e = plain-le (m * up e * 1) (1 * 1 * down e) q in omega arith

@@ -34,8 +34,7 @@ impl IndexList {
         requires { ⌜ index < 16 ⌝ }
         ensures { λ r. ⌜ r ≡ indexAt (self .data) index ⌝ }
     {
-        let shift = 3 * (index as u64);
-        ((self.data >> shift) % 8) as u8
+        ((self.data >> (3 * index)) % 8) as u8
     }
 
     // The Rust's `|=`: the three bits are 0 before, so a sum is the same. Setting twice is not offered; callers go through the
@@ -44,9 +43,8 @@ impl IndexList {
         requires { ⌜ (index < 16) × (value < 8) × (indexAt (self .data) index ≡ 0) ⌝ }
         ensures { λ r. ⌜ r .data ≡ setAt (self .data) index value ⌝ }
     {
-        let shift = 3 * (index as u64);
         Self {
-            data: self.data + ((value as u64) << shift),
+            data: self.data + ((value as u64) << (3 * index)),
         }
     }
 }

@@ -1,0 +1,306 @@
+-- The operations keep the order, for all floats: rounding, a product with a factor above 0, a sum with a finite term; a difference turns it round.
+-- Overflow, subnormals, infinities and zeros of either sign are all covered. Assumes nothing.
+use mathlib.Core.Path.{_≡_, refl, sym, ap, ap₂, _∙_, subst}
+use Prim.Native.Nat.{ℕ, zero, suc, _+_, _-_, _*_, _≤_, _<_}
+use native.Mathlib.Nat.{mul-pos, mul-comm, mul-assoc, mul-left-comm, mul-le-mul-right, zero-mul}
+use native.Mathlib.Omega.{arith}
+use mathlib.Core.Bool.{Bool, true, false, not, _&&_, _||_, cond, Bool·beq}
+use lib.IntN.{ℤ}
+use lib.Dec.{T, ltb, eqb, eqb→eq, ltb→lt, nltb→le, lit<}
+use lib.Ieee.{Float, nan, inf, fin, Format, binary32, binary64, up, down, unlike, round, neg, sum, add, sub, mul, lt, le, eq, isNan}
+use lib.Ieee.Bits.{is-true}
+use lib.Ieee.Fits.{down-pos, and-l, and-r, up-pos}
+use lib.Ieee.Exact.{HasValue}
+use lib.Ieee.Order.{round-mono}
+use lib.Ieee.Positive.{positive}
+use lib.Ieee.Scale.{round-same, finite}
+use borrow.Author.Tests.{leb-true, ltb-true, ltb-false, ne-eqb}
+use Rattle.floats.proofs.Tests.{so, so-not, clash, leb-not-ltb}
+use Rattle.floats.proofs.Fractions.{le-plain, le-flip, le-over}
+use Rattle.floats.proofs.Casts.{plain-le}
+use Rattle.floats.proofs.Signs.{SignedBy, round-signed, round-mirror, neg-le}
+use Rattle.floats.proofs.ExactResult.{gap, signOf, sum-is, add-at}
+
+-- ---- ±a ≤ ±b
+abbrev Leq : Bool → ℕ → Bool → ℕ → Type 0
+Leq false a false b = a ≤ b
+Leq false a true b = (a ≡ 0) × (b ≡ 0)
+Leq true a false b = T true
+Leq true a true b = b ≤ a
+
+leq-scaled : (s t : Bool) (a b k : ℕ) → Leq s a t b → Leq s (a * k) t (b * k)
+leq-scaled false false a b k h = mul-le-mul-right k h
+leq-scaled false true a b k h = (none a k (h .0), none b k (h .1))
+  where
+    none : (a k : ℕ) → a ≡ 0 → a * k ≡ 0
+    none a k e = ap (λ (z : ℕ). z * k) e ∙ zero-mul k
+leq-scaled true false a b k h = tt
+leq-scaled true true a b k h = mul-le-mul-right k h
+
+leq-of-le : (s : Bool) (m : ℕ) (e : ℤ) (t : Bool) (n : ℕ) (d : ℤ) → le (fin s m e) (fin t n d) ≡ true → Leq s (m * up e * down d) t (n * up d * down e)
+unfolding le lt eq
+leq-of-le false m e false n d h = plain-le (m * up e * down d) (n * up d * down e) h
+leq-of-le false m e true n d h = zeros (m * up e * down d) (n * up d * down e) (so h)
+  where
+    zeros : (a b : ℕ) → T (eqb a b && eqb a 0) → (a ≡ 0) × (b ≡ 0)
+    zeros a b h =
+        let p : a ≡ b = eqb→eq a b (and-l (eqb a b) (eqb a 0) h) in
+        let q : a ≡ 0 = eqb→eq a 0 (and-r (eqb a b) (eqb a 0) h) in
+        (q, sym p ∙ q)
+leq-of-le true m e false n d h = tt
+leq-of-le true m e true n d h = flipped (m * up e * down d) (n * up d * down e) h
+  where
+    flipped : (a b : ℕ) → (ltb b a || (eqb a b && true)) ≡ true → b ≤ a
+    flipped a b h = leb-true b a (sym (leb-not-ltb b a) ∙ sym (le-flip a b) ∙ h)
+
+-- ---- rounding
+under-over : (x y : Float) → SignedBy true x → SignedBy false y → le x y ≡ true
+unfolding le lt eq
+under-over nan y p q = absurd p
+under-over (inf false) y p q = clash p refl
+under-over (inf true) nan p q = absurd q
+under-over (inf true) (inf true) p q = clash refl q
+under-over (inf true) (inf false) p q = refl
+under-over (inf true) (fin t n d) p q = refl
+under-over (fin false m e) y p q = clash p refl
+under-over (fin true m e) nan p q = absurd q
+under-over (fin true m e) (inf true) p q = clash refl q
+under-over (fin true m e) (inf false) p q = refl
+under-over (fin true m e) (fin true n d) p q = clash refl q
+under-over (fin true m e) (fin false n d) p q = le-over (m * up e * down d) (n * up d * down e)
+
+round-zero : (f : Format) (s : Bool) (a c : ℕ) → 0 < c → a ≡ 0 → round f s a c ≡ round f s 0 1
+round-zero f s a c C e = round-same f s a c 0 1 C (lit< tt) (ap (λ (z : ℕ). z * 1) e ∙ sym (zero-mul c))
+
+pub round-leq : (f : Format) (s t : Bool) (a c b d : ℕ) → 0 < c → 0 < d → Leq s (a * d) t (b * c) → le (round f s a c) (round f t b d) ≡ true
+round-leq f false false a c b d C D h = is-true _ (round-mono f a c b d C D h)
+round-leq f false true a c b d C D h = rw (round-zero f false a c C (factor a d D (h .0)), round-zero f true b d D (factor b c C (h .1))) (zeros f)
+  where
+    factor : (a d : ℕ) → 0 < d → a * d ≡ 0 → a ≡ 0
+    factor zero d D e = refl
+    factor (suc a) d D e = absurd (some (suc a * d) (mul-pos (one-more a) D) e)
+      where
+        one-more : (a : ℕ) → 0 < suc a
+        one-more a = omega arith
+        some : (n : ℕ) → 0 < n → n ≡ 0 → ⊥
+        some n h e = omega arith
+    zeros : (f : Format) → le (round f false 0 1) (round f true 0 1) ≡ true
+    zeros binary32 = unfold round le in refl
+    zeros binary64 = unfold round le in refl
+round-leq f true false a c b d C D h = under-over _ _ (round-signed f true a c) (round-signed f false b d)
+round-leq f true true a c b d C D h =
+    rw (round-mirror f a c, round-mirror f b d) (sym (neg-le (round f false b d) (round f false a c)) ∙ is-true _ (round-mono f b d a c D C h))
+
+-- ---- a product with a factor above 0
+-- a factor's signed product: its sign is the other's
+product : (f : Format) (n : ℕ) (j : ℤ) (s : Bool) (m : ℕ) (e : ℤ) → mul f (fin false n j) (fin s m e) ≡ round f s (n * up j * (m * up e)) (down j * down e)
+unfolding mul
+product f n j true m e = refl
+product f n j false m e = refl
+
+infinite : (f : Format) (n : ℕ) (j : ℤ) (s : Bool) → 0 < n → mul f (fin false n j) (inf s) ≡ inf s
+unfolding mul
+infinite f n j true h = rw (ne-eqb n 0 (λ e. omega arith))
+infinite f n j false h = rw (ne-eqb n 0 (λ e. omega arith))
+
+-- below -infinity is nothing, and above it all that is no NaN
+from-bottom : (x : Float) → isNan x ≡ false → le (inf true) x ≡ true
+unfolding le lt eq isNan
+from-bottom nan h = clash refl h
+from-bottom (inf true) h = refl
+from-bottom (inf false) h = refl
+from-bottom (fin s m e) h = refl
+
+to-top : (x : Float) → isNan x ≡ false → le x (inf false) ≡ true
+unfolding le lt eq isNan
+to-top nan h = clash refl h
+to-top (inf true) h = refl
+to-top (inf false) h = refl
+to-top (fin s m e) h = refl
+
+round-real : (f : Format) (s : Bool) (a c : ℕ) → isNan (round f s a c) ≡ false
+round-real f s a c = go (round f s a c) (round-signed f s a c)
+  where
+    go : (x : Float) → SignedBy s x → isNan x ≡ false
+    go nan h = absurd h
+    go (inf t) h = unfold isNan in refl
+    go (fin t m e) h = unfold isNan in refl
+
+-- an operation that rounds at finite values, and leaves an infinity as it is, keeps the order if it keeps that of finite ones
+module _ (g : Float → Float) (top : (s : Bool) → g (inf s) ≡ inf s) (real : (s : Bool) (m : ℕ) (e : ℤ) → isNan (g (fin s m e)) ≡ false) where
+  extended : ((s : Bool) (m : ℕ) (e : ℤ) (t : Bool) (n : ℕ) (d : ℤ) → le (fin s m e) (fin t n d) ≡ true → le (g (fin s m e)) (g (fin t n d)) ≡ true)
+      → (x y : Float) → le x y ≡ true → le (g x) (g y) ≡ true
+  extended k nan y h = clash h (unfold le in refl)
+  extended k (inf true) nan h = clash h (unfold le in refl)
+  extended k (inf true) (inf t) h = rw (top true, top t) h
+  extended k (inf true) (fin t n d) h = rw (top true) (from-bottom _ (real t n d))
+  extended k (inf false) nan h = clash h (unfold le in refl)
+  extended k (inf false) (inf t) h = rw (top false, top t) h
+  extended k (inf false) (fin t n d) h = clash h (unfold le in refl)
+  extended k (fin s m e) nan h = clash h (unfold le in refl)
+  extended k (fin s m e) (inf true) h = clash h (unfold le in refl)
+  extended k (fin s m e) (inf false) h = rw (top false) (to-top _ (real s m e))
+  extended k (fin s m e) (fin t n d) h = k s m e t n d h
+
+-- ---- a product with a factor above 0
+mul-fin : (f : Format) (a : ℕ) (j : ℤ) (s : Bool) (m : ℕ) (e : ℤ) (t : Bool) (n : ℕ) (d : ℤ) → le (fin s m e) (fin t n d) ≡ true
+    → le (mul f (fin false a j) (fin s m e)) (mul f (fin false a j) (fin t n d)) ≡ true
+mul-fin f a j s m e t n d h =
+    rw (product f a j s m e, product f a j t n d)
+    (round-leq f s t (a * up j * (m * up e)) (down j * down e) (a * up j * (n * up d)) (down j * down d) (mul-pos (down-pos j) (down-pos e)) (mul-pos (down-pos j) (down-pos d))
+    (subst (λ (p : ℕ). Leq s p t (a * up j * (n * up d) * (down j * down e))) (crossed (a * up j) (m * up e) (down j) (down d))
+    (subst (λ (p : ℕ). Leq s (m * up e * down d * (a * up j * down j)) t p) (crossed (a * up j) (n * up d) (down j) (down e))
+    (leq-scaled s t (m * up e * down d) (n * up d * down e) (a * up j * down j) (leq-of-le s m e t n d h)))))
+  where
+    crossed : (a m j d : ℕ) → m * d * (a * j) ≡ a * m * (j * d)
+    crossed a m j d = simp (mul-assoc, mul-comm, mul-left-comm)
+
+pub mul-mono : (f : Format) (c x y : Float) → T (positive c) → le x y ≡ true → le (mul f c x) (mul f c y) ≡ true
+mul-mono f nan x y p h = absurd p
+mul-mono f (inf s) x y p h = absurd p
+mul-mono f (fin true a j) x y p h = absurd p
+mul-mono f (fin false a j) x y p h =
+    extended (mul f (fin false a j)) (λ s. infinite f a j s (ltb→lt 0 a p))
+    (λ s m e. rw (product f a j s m e) (round-real f s (a * up j * (m * up e)) (down j * down e)))
+    (mul-fin f a j) x y h
+
+-- ---- a sum with a finite term
+-- ±p + ±b ≤ ±q + ±b for ±p ≤ ±q
+sum-leq : (s t u : Bool) (p q b : ℕ) → Leq s p t q → Leq (signOf s p u b) (gap s p u b) (signOf t q u b) (gap t q u b)
+sum-leq false false false p q b h = omega arith
+sum-leq false false true p q b h = go (ltb p b) refl (ltb q b) refl
+  where
+    go : (x : Bool) → ltb p b ≡ x → (y : Bool) → ltb q b ≡ y → Leq (cond x true false) (cond x (b - p) (p - b)) (cond y true false) (cond y (b - q) (q - b))
+    go true e true g = omega arith
+    go true e false g = tt
+    go false e true g = absurd (omega (arith, ltb-false p b e, ltb-true q b g))
+    go false e false g = omega arith
+sum-leq false true false p q b h = go (ltb q b) refl (ltb b q) refl
+  where
+    go : (x : Bool) → ltb q b ≡ x → (y : Bool) → ltb b q ≡ y → Leq false (p + b) (cond x false y) (cond x (b - q) (q - b))
+    go true e y g = omega arith
+    go false e true g = absurd (omega (arith, ltb-true b q g))
+    go false e false g = omega (arith, ltb-false q b e)
+sum-leq false true true p q b h = go (ltb p b) refl
+  where
+    go : (x : Bool) → ltb p b ≡ x → Leq (cond x true false) (cond x (b - p) (p - b)) true (q + b)
+    go true e = omega arith
+    go false e = let k : b ≤ p = ltb-false p b e in omega arith
+sum-leq true false false p q b h = go (ltb p b) refl (ltb b p) refl
+  where
+    go : (x : Bool) → ltb p b ≡ x → (y : Bool) → ltb b p ≡ y → Leq (cond x false y) (cond x (b - p) (p - b)) false (q + b)
+    go true e y g = omega arith
+    go false e true g = tt
+    go false e false g = omega (arith, ltb-false b p g)
+sum-leq true false true p q b h = go (ltb q b)
+  where
+    go : (x : Bool) → Leq true (p + b) (cond x true false) (cond x (b - q) (q - b))
+    go true = omega arith
+    go false = tt
+sum-leq true true false p q b h = go (ltb p b) refl (ltb b p) refl (ltb q b) refl (ltb b q) refl
+  where
+    go : (x : Bool) → ltb p b ≡ x → (y : Bool) → ltb b p ≡ y → (z : Bool) → ltb q b ≡ z → (w : Bool) → ltb b q ≡ w
+        → Leq (cond x false y) (cond x (b - p) (p - b)) (cond z false w) (cond z (b - q) (q - b))
+    go true e y g true d w c = omega arith
+    go true e y g false d w c = absurd (omega (arith, ltb-true p b e, ltb-false q b d))
+    go false e true g true d w c = tt
+    go false e true g false d true c = omega arith
+    go false e true g false d false c = tt
+    go false e false g true d w c = omega (arith, ltb-false b p g)
+    go false e false g false d true c = absurd (omega (arith, ltb-false b p g, ltb-true b q c))
+    go false e false g false d false c = omega (arith, ltb-false b p g)
+sum-leq true true true p q b h = omega arith
+
+-- the three values over one denominator
+add-fin : (f : Format) (u : Bool) (b : ℕ) (j : ℤ) (s : Bool) (m : ℕ) (e : ℤ) (t : Bool) (n : ℕ) (d : ℤ) → le (fin s m e) (fin t n d) ≡ true
+    → le (add f (fin s m e) (fin u b j)) (add f (fin t n d) (fin u b j)) ≡ true
+add-fin f u b j s m e t n d h =
+    let P = m * up e * down d * down j in
+    let Q = n * up d * down e * down j in
+    let B = b * up j * (down e * down d) in
+    let C = down e * down d * down j in
+    let c : 0 < C = mul-pos (mul-pos (down-pos e) (down-pos d)) (down-pos j) in
+    let x : add f (fin s m e) (fin u b j) ≡ round f (signOf s P u B) (gap s P u B) C =
+        add-at f (fin s m e) (fin u b j) s u P B C c (refl, over (m * up e) (down e) (down d) (down j)) (refl, third (b * up j) (down e * down d) (down j)) ∙ sum-is f s P u B C in
+    let y : add f (fin t n d) (fin u b j) ≡ round f (signOf t Q u B) (gap t Q u B) C =
+        add-at f (fin t n d) (fin u b j) t u Q B C c (refl, other (n * up d) (down e) (down d) (down j)) (refl, third (b * up j) (down e * down d) (down j)) ∙ sum-is f t Q u B C in
+    rw (x, y)
+    (round-leq f (signOf s P u B) (signOf t Q u B) (gap s P u B) C (gap t Q u B) C c c
+    (leq-scaled (signOf s P u B) (signOf t Q u B) (gap s P u B) (gap t Q u B) C
+    (sum-leq s t u P Q B (leq-scaled s t (m * up e * down d) (n * up d * down e) (down j) (leq-of-le s m e t n d h)))))
+  where
+    over : (x e d j : ℕ) → x * (e * d * j) ≡ x * d * j * e
+    over x e d j = simp (mul-assoc, mul-comm, mul-left-comm)
+    other : (x e d j : ℕ) → x * (e * d * j) ≡ x * e * j * d
+    other x e d j = simp (mul-assoc, mul-comm, mul-left-comm)
+    third : (x a j : ℕ) → x * (a * j) ≡ x * a * j
+    third x a j = sym (mul-assoc x a j)
+
+add-real : (f : Format) (u : Bool) (b : ℕ) (j : ℤ) (s : Bool) (m : ℕ) (e : ℤ) → isNan (add f (fin s m e) (fin u b j)) ≡ false
+unfolding add
+add-real f u b j s m e = rw (sum-is f s (m * up e * down j) u (b * up j * down e) (down e * down j)) (round-real f _ _ _)
+
+pub add-mono : (f : Format) (c x y : Float) → T (finite c) → le x y ≡ true → le (add f x c) (add f y c) ≡ true
+add-mono f nan x y p h = absurd p
+add-mono f (inf s) x y p h = absurd p
+add-mono f (fin u b j) x y p h = extended (λ z. add f z (fin u b j)) (λ s. unfold add in refl) (add-real f u b j) (add-fin f u b j) x y h
+
+-- ---- a sum may be turned round, so a difference from a finite value turns the order round
+gap-apart : (a b : ℕ) → gap true a false b ≡ gap false b true a
+gap-apart a b = go (ltb a b) refl (ltb b a) refl
+  where
+    go : (x : Bool) → ltb a b ≡ x → (y : Bool) → ltb b a ≡ y → cond x (b - a) (a - b) ≡ cond y (a - b) (b - a)
+    go true e true g = absurd (omega (arith, ltb-true a b e, ltb-true b a g))
+    go true e false g = refl
+    go false e true g = refl
+    go false e false g = omega (arith, ltb-false a b e, ltb-false b a g)
+
+gap-comm : (s t : Bool) (a b : ℕ) → gap s a t b ≡ gap t b s a
+gap-comm true true a b = omega arith
+gap-comm false false a b = omega arith
+gap-comm true false a b = gap-apart a b
+gap-comm false true a b = sym (gap-apart b a)
+
+sign-apart : (a b : ℕ) → signOf true a false b ≡ signOf false b true a
+sign-apart a b = go (ltb a b) refl (ltb b a) refl
+  where
+    go : (x : Bool) → ltb a b ≡ x → (y : Bool) → ltb b a ≡ y → cond x false y ≡ cond y true false
+    go true e true g = absurd (omega (arith, ltb-true a b e, ltb-true b a g))
+    go true e false g = refl
+    go false e true g = refl
+    go false e false g = refl
+
+sign-comm : (s t : Bool) (a b : ℕ) → signOf s a t b ≡ signOf t b s a
+sign-comm true true a b = refl
+sign-comm false false a b = refl
+sign-comm true false a b = sign-apart a b
+sign-comm false true a b = sym (sign-apart b a)
+
+pub add-comm : (f : Format) (x y : Float) → add f x y ≡ add f y x
+unfolding add
+add-comm f nan nan = refl
+add-comm f nan (inf true) = refl
+add-comm f nan (inf false) = refl
+add-comm f nan (fin t n d) = refl
+add-comm f (inf true) nan = refl
+add-comm f (inf true) (inf true) = refl
+add-comm f (inf true) (inf false) = refl
+add-comm f (inf true) (fin t n d) = refl
+add-comm f (inf false) nan = refl
+add-comm f (inf false) (inf true) = refl
+add-comm f (inf false) (inf false) = refl
+add-comm f (inf false) (fin t n d) = refl
+add-comm f (fin s m e) nan = refl
+add-comm f (fin s m e) (inf true) = refl
+add-comm f (fin s m e) (inf false) = refl
+add-comm f (fin s m e) (fin t n d) =
+    let a = m * up e * down d in
+    let b = n * up d * down e in
+    sum-is f s a t b (down e * down d)
+    ∙ ap (λ (c : ℕ). round f (signOf s a t b) (gap s a t b) c) (mul-comm (down e) (down d))
+    ∙ ap₂ (λ (u : Bool) (k : ℕ). round f u k (down d * down e)) (sign-comm s t a b) (gap-comm s t a b)
+    ∙ sym (sum-is f t b s a (down d * down e))
+
+pub sub-anti : (f : Format) (c x y : Float) → T (finite c) → le x y ≡ true → le (sub f c y) (sub f c x) ≡ true
+unfolding sub
+sub-anti f c x y p h = rw (add-comm f c (neg y), add-comm f c (neg x)) (add-mono f c (neg y) (neg x) p (sym (neg-le x y) ∙ h))

@@ -1,0 +1,32 @@
+// formats.rs: the one-byte value functions, and what both formats share.
+ghost use mathlib.Core.Path.{_≡_};
+ghost use Rattle.values.specs.Values.{steps as stepsOf, levelByte, levelValue};
+ghost use Prim.Native.Nat.{_≤_};
+
+pub mod n8;
+pub mod s8;
+
+// The level that means 1.
+pub fn steps(snorm: bool) -> u8
+    ensures { λ r. ⌜ r ≡ stepsOf snorm ⌝ }
+{
+    if snorm { 254 } else { 255 }
+}
+
+// The byte of a level.
+pub fn level_byte(level: u8, snorm: bool) -> u8
+    requires { ⌜ level ≤ stepsOf snorm ⌝ }
+    ensures { λ r. ⌜ r ≡ levelByte snorm level ⌝ }
+{
+    if snorm { s8::from_norm(level) } else { level }
+}
+
+pub fn level_value(level: u8, snorm: bool) -> f32
+    ensures { λ r. ⌜ r ≡ levelValue snorm level ⌝ }
+{
+    if snorm {
+        s8::norm_f32(level)
+    } else {
+        n8::f32(level)
+    }
+}
