@@ -2,13 +2,13 @@
 -- So a cast is found by tests, and tests of a cast by the cast. Assumes nothing.
 use mathlib.Core.Path.{_≡_, refl, sym, _∙_, subst}
 use Prim.Native.Nat.{ℕ, zero, suc, _+_, _-_, _*_, _/_, _^_, _≤_, _<_, min}
-use native.Mathlib.Nat.{mul-one, mul-pos, zero-mul, le-div-iff-mul-le}
+use native.Mathlib.Nat.{mul-one, mul-pos, le-div-iff-mul-le}
 use native.Mathlib.Omega.{arith}
-use mathlib.Core.Bool.{Bool, true, false, not, _&&_, _||_, cond}
+use mathlib.Core.Bool.{Bool, true, false, _&&_, _||_, cond}
 use lib.IntN.{pos}
 use lib.Dec.{T, leb, ltb, eqb, leb→le, le→leb, eqb→eq, lit<, lit≤}
 use lib.Ieee.{Float, nan, inf, fin, up, down, lt, le, ofBits, isNan, toUnsigned}
-use lib.Ieee.Fits.{down-pos, and-l, and-r}
+use lib.Ieee.Fits.{down-pos, and-r}
 use lib.Ieee.Nearest.{div-mono}
 use lib.Ieee.Casts.{toUnsigned-lt}
 use borrow.Author.Tests.{le-leb, lt-leb, leb-true, leb-false}

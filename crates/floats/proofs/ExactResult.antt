@@ -1,11 +1,10 @@
 -- The operations at floats of which a fraction is known (`HasValue`), with either sign: each is `round` of the exact result. Assumes nothing.
 use mathlib.Core.Path.{_≡_, refl, sym, ap, ap₂, _∙_, subst}
-use Prim.Native.Nat.{ℕ, _+_, _-_, _*_, _^_, _≤_, _<_}
-use native.Mathlib.Nat.{mul-comm, mul-assoc, mul-right-comm, add-mul, add-comm, mul-sub, mul-pos, mul-mul-mul-comm, mul-lt-mul-of-pos-right, lt-of-mul-lt-mul-right}
+use Prim.Native.Nat.{ℕ, _+_, _-_, _*_, _≤_, _<_}
+use native.Mathlib.Nat.{mul-comm, mul-assoc, mul-right-comm, add-mul, mul-sub, mul-pos, mul-mul-mul-comm, mul-lt-mul-of-pos-right, lt-of-mul-lt-mul-right}
 use native.Mathlib.Omega.{arith}
 use mathlib.Core.Bool.{Bool, true, false, not, _&&_, cond, Bool·beq}
 use lib.Dec.{T, ltb, eqb, eqb→eq, ltb→lt, lt→ltb}
-use lib.IntN.{pos}
 use lib.Ieee.{Float, nan, inf, fin, Format, up, down, unlike, round, neg, sum, add, sub, mul, div}
 use lib.Ieee.Fits.{down-pos, up-pos}
 use lib.Ieee.Exact.{HasValue}

@@ -4,19 +4,18 @@ use mathlib.Core.Path.{_≡_, refl, sym, ap, ap₂, _∙_, subst}
 use Prim.Native.Nat.{ℕ, zero, suc, _+_, _-_, _*_, _≤_, _<_}
 use native.Mathlib.Nat.{mul-pos, mul-comm, mul-assoc, mul-left-comm, mul-le-mul-right, zero-mul}
 use native.Mathlib.Omega.{arith}
-use mathlib.Core.Bool.{Bool, true, false, not, _&&_, _||_, cond, Bool·beq}
+use mathlib.Core.Bool.{Bool, true, false, _&&_, _||_, cond}
 use lib.IntN.{ℤ}
-use lib.Dec.{T, ltb, eqb, eqb→eq, ltb→lt, nltb→le, lit<}
-use lib.Ieee.{Float, nan, inf, fin, Format, binary32, binary64, up, down, unlike, round, neg, sum, add, sub, mul, lt, le, eq, isNan}
+use lib.Dec.{T, ltb, eqb, eqb→eq, ltb→lt, lit<}
+use lib.Ieee.{Float, nan, inf, fin, Format, binary32, binary64, up, down, round, neg, add, sub, mul, lt, le, eq, isNan}
 use lib.Ieee.Bits.{is-true}
-use lib.Ieee.Fits.{down-pos, and-l, and-r, up-pos}
-use lib.Ieee.Exact.{HasValue}
+use lib.Ieee.Fits.{down-pos, and-l, and-r}
 use lib.Ieee.Order.{round-mono}
 use lib.Ieee.Positive.{positive}
 use lib.Ieee.Scale.{round-same, finite}
 use borrow.Author.Tests.{leb-true, ltb-true, ltb-false, ne-eqb}
-use Rattle.floats.proofs.Tests.{so, so-not, clash, leb-not-ltb}
-use Rattle.floats.proofs.Fractions.{le-plain, le-flip, le-over}
+use Rattle.floats.proofs.Tests.{so, clash, leb-not-ltb}
+use Rattle.floats.proofs.Fractions.{le-flip, le-over}
 use Rattle.floats.proofs.Casts.{plain-le}
 use Rattle.floats.proofs.Signs.{SignedBy, round-signed, round-mirror, neg-le}
 use Rattle.floats.proofs.ExactResult.{gap, signOf, sum-is, add-at}

@@ -6,7 +6,7 @@ use mathlib.Core.Logic.{_⊎_, inl, inr, ⊎-elim}
 use Prim.Native.Nat.{ℕ, _*_}
 use mathlib.Core.Bool.{Bool, true, false, not, true≢false}
 use lib.Dec.{T}
-use lib.Ieee.{Float, nan, inf, fin, up, down, level, lt, le, eq, ne, neg, isNan}
+use lib.Ieee.{Float, nan, inf, fin, up, down, level, lt, le, eq, ne, isNan}
 use lib.Ieee.Fits.{down-pos, and-i}
 use lib.Dec.{eqb, eqb-refl}
 use lib.Ieee.Bits.{is-true}

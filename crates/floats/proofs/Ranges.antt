@@ -6,7 +6,7 @@ use lib.Ieee.{Float, nan, lt, le, isNan, ofBits}
 use Rattle.floats.specs.Arithmetic.{f0, f1}
 use Rattle.floats.specs.Helpers.{laneMin, laneMax, minOf, maxOf, clampOf, entryClamp}
 use Rattle.floats.proofs.Tests.{clash}
-use Rattle.floats.proofs.Order.{lt-asym, lt-left, lt-right, le-of-lt, le-of-not, le-refl, ne-self, is-nan}
+use Rattle.floats.proofs.Order.{lt-asym, lt-left, lt-right, lt-le-trans, le-lt-trans, le-left, le-right, le-of-lt, le-of-not, le-refl, ne-self, is-nan}
 
 pub real-0 : isNan f0 ≡ false
 unfolding isNan ofBits
@@ -61,6 +61,20 @@ clamp-to-1 x n = go (lt x f0) (lt f1 x) refl
     go true u e = zero-one
     go false true e = le-refl f1 real-1
     go false false e = le-of-not x f1 n real-1 e
+
+pub clamp-mono : (x y : Float) → le x y ≡ true → le (clampOf x) (clampOf y) ≡ true
+clamp-mono x y h = go (lt x f0) refl (lt f1 x) refl (lt y f0) refl (lt f1 y) refl
+  where
+    go : (t : Bool) → lt x f0 ≡ t → (u : Bool) → lt f1 x ≡ u → (v : Bool) → lt y f0 ≡ v → (w : Bool) → lt f1 y ≡ w
+        → le (cond t f0 (cond u f1 x)) (cond v f0 (cond w f1 y)) ≡ true
+    go true a u b true c w d = le-refl f0 real-0
+    go true a u b false c true d = zero-one
+    go true a u b false c false d = le-of-not f0 y real-0 (le-right x y h) c
+    go false a u b true c w d = clash (le-lt-trans x y f0 h c) a
+    go false a true b false c true d = le-refl f1 real-1
+    go false a true b false c false d = clash (lt-le-trans f1 x y b h) d
+    go false a false b false c true d = le-of-not x f1 (le-left x y h) real-1 b
+    go false a false b false c false d = h
 
 -- ---- f32::min and f32::max
 pub min-max : (x y : Float) → ((minOf x y ≡ nan) × (maxOf x y ≡ nan)) ⊎ (le (minOf x y) (maxOf x y) ≡ true)

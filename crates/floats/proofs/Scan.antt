@@ -5,12 +5,11 @@ use mathlib.Core.List.{List, [], _∷_}
 use mathlib.Core.Bool.{Bool, true, false, cond}
 use Prim.Native.Nat.{ℕ, zero, suc}
 use lib.ListN.{getD}
-use lib.Ieee.{Float, nan, lt, le, isNan, ofBits}
-use Rattle.floats.specs.Arithmetic.{f0, f1}
-use Rattle.floats.specs.Helpers.{laneMin, laneMax, minOf, maxOf, clampOf, entryClamp}
+use lib.Ieee.{Float, nan, lt, le, isNan}
+use Rattle.floats.specs.Helpers.{laneMin}
 use Rattle.floats.specs.Scan.{least}
 use Rattle.floats.proofs.Tests.{clash, either}
-use Rattle.floats.proofs.Order.{lt-irrefl, lt-trans, lt-left, le-of-lt, le-of-not, le-refl}
+use Rattle.floats.proofs.Order.{lt-irrefl, lt-trans, lt-left, le-of-not}
 
 -- ---- one step
 -- what is not below either side is not below the smaller

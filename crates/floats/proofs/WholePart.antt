@@ -7,7 +7,7 @@ use mathlib.Core.Bool.{Bool, true, false, not, _&&_, cond}
 use lib.IntN.{ℤ, pos, negsuc}
 use lib.Dec.{T, leb, ltb, eqb, le→leb, ltb→lt, lit<}
 use lib.Pow.{pow-pos}
-use lib.Ieee.{Float, nan, inf, fin, binary32, emax, low, up, down, round, lt, le, eq, neg, fits, ofBits, ofInt, inFloat, toUnsigned}
+use lib.Ieee.{Float, nan, inf, fin, binary32, emax, low, up, down, round, lt, eq, neg, fits, ofBits, ofInt, inFloat, toUnsigned}
 use lib.Ieee.Fits.{down-pos, round-fits, and-l, and-r}
 use lib.Ieee.Back.{round-whole, whole-unique}
 use borrow.Author.Tests.{lt-ltb, leb-false}

@@ -2,14 +2,14 @@
 -- A level's byte has that level, and is never -128. Assumes nothing.
 use mathlib.Core.Path.{_≡_, refl}
 use mathlib.Core.Bool.{Bool, true, false, cond}
-use Prim.Native.Nat.{ℕ, _+_, _-_, _%_, _<_, _≤_}
+use Prim.Native.Nat.{ℕ, _+_, _<_, _≤_}
 use native.Mathlib.Omega.{arith}
 use lib.Dec.{T}
 use lib.Ieee.{Float, ofBits, ofInt, mul, div, lt, le}
 use lib.Ieee.Bits.{is-true}
-use Rattle.floats.specs.Arithmetic.{_⊗_, _⊘_, whole, bits, f0, f1}
+use Rattle.floats.specs.Arithmetic.{_⊗_, whole, bits, f0, f1}
 use Rattle.floats.proofs.Table.{all, at, both, both-left, both-right, same, same→eq, step, grows}
-use Rattle.values.specs.Values.{steps, normOf, fromNorm, levelOf, levelByte, levelValue, valueOf}
+use Rattle.values.specs.Values.{steps, fromNorm, levelOf, levelByte, levelValue, valueOf}
 
 -- ---- the code's two products: 3 and 1 / (3 * 255), 31 and 1 / (31 * 254)
 abbrev products : Bool → ℕ → Float

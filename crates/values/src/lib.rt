@@ -1,6 +1,6 @@
 // formats.rs: the one-byte value functions, and what both formats share.
 ghost use mathlib.Core.Path.{_≡_};
-ghost use Rattle.values.specs.Values.{steps as stepsOf, levelByte, levelValue};
+ghost use Rattle.values.specs.Values.{steps as stepsOf, levelByte, levelValue, valueOf};
 ghost use Prim.Native.Nat.{_≤_};
 
 pub mod n8;
@@ -29,4 +29,11 @@ pub fn level_value(level: u8, snorm: bool) -> f32
     } else {
         n8::f32(level)
     }
+}
+
+// The float of a byte.
+pub fn value(b: u8, snorm: bool) -> f32
+    ensures { λ r. ⌜ r ≡ valueOf snorm b ⌝ }
+{
+    if snorm { s8::uf32(b) } else { n8::f32(b) }
 }

@@ -1,0 +1,78 @@
+-- The two levels of any two floats, NaN included, differ, the low one first, and are in the format. Assumes nothing.
+use mathlib.Core.Path.{_≡_, refl}
+use mathlib.Core.Logic.{⊎-elim}
+use Prim.Native.Nat.{ℕ, zero, suc, _+_, _-_, _≤_, _<_}
+use native.Mathlib.Nat.{eq-or-lt-of-le}
+use native.Mathlib.Omega.{arith}
+use mathlib.Core.Bool.{Bool, true, false, cond}
+use lib.Dec.{eqb, lit<}
+use lib.Ieee.{Float, nan, le}
+use borrow.Author.Tests.{eqb-true, eqb-false}
+use Rattle.floats.specs.Helpers.{minOf, maxOf}
+use Rattle.floats.proofs.Order.{le-right}
+use Rattle.floats.proofs.Ranges.{clamp-nan, clamp-mono, min-max}
+use Rattle.values.specs.Values.{steps}
+use Rattle.end_points.specs.declared.levels.Levels.{Levels}
+use Rattle.end_points.specs.Levels.{nearest, roundedDown, downFromTop, roundedUp, levels, apart, levelsBetween, inFormat, levelsOf}
+use Rattle.end_points.proofs.Rounded.{Fitting, fitting, nearest-mono, down-mono, at-nan, room}
+
+-- ---- levels: different, in order, in the format
+pub record Distinct (snorm : Bool) (l : Levels) : Type 0 where
+  pub order : l .low < l .high
+  pub top : l .high ≤ steps snorm
+
+one-step : (snorm : Bool) → 1 ≤ steps snorm
+one-step true = omega arith
+one-step false = omega arith
+
+apart-distinct : (snorm : Bool) (low high : ℕ) → low ≤ high → high ≤ steps snorm → Distinct snorm (apart low high)
+unfolding apart
+apart-distinct snorm low high h k = go (eqb low high) refl (eqb low 0) refl
+  where
+    go : (s : Bool) → eqb low high ≡ s → (t : Bool) → eqb low 0 ≡ t → Distinct snorm (cond s (cond t (levels low 1) (levels (low - 1) high)) (levels low high))
+    go true e true z = record { order = omega (arith, eqb-true low 0 z); top = one-step snorm }
+    go true e false z = record { order = less low high (eqb-true low high e) (eqb-false low 0 z); top = k }
+      where
+        less : (low high : ℕ) → low ≡ high → (low ≡ 0 → ⊥) → low - 1 < high
+        less zero high e n = absurd (n refl)
+        less (suc low) high e n = omega arith
+    go false e t z = record { order = ⊎-elim (λ q. absurd (eqb-false low high e q)) (λ q. q) (eq-or-lt-of-le h); top = k }
+
+between-distinct : (snorm : Bool) (a b : Float) → le a b ≡ true → Fitting snorm b → Distinct snorm (levelsBetween snorm a b)
+unfolding levelsBetween
+between-distinct snorm a b h fit = go (eqb (nearest snorm a) (nearest snorm b)) refl
+  where
+    outwards : roundedDown snorm a ≤ roundedUp snorm b
+    outwards =
+        let m : roundedDown snorm a ≤ roundedDown snorm b = down-mono snorm a b h in
+        let r : roundedDown snorm b + downFromTop snorm b ≤ steps snorm = room snorm b (le-right a b h) (fit .down) (fit .top) in
+        omega arith
+    go : (s : Bool) → eqb (nearest snorm a) (nearest snorm b) ≡ s
+        → Distinct snorm (cond s (apart (roundedDown snorm a) (roundedUp snorm b)) (levels (nearest snorm a) (nearest snorm b)))
+    go true e = apart-distinct snorm (roundedDown snorm a) (roundedUp snorm b) outwards (omega arith)
+    go false e = record {
+      order = ⊎-elim (λ q. absurd (eqb-false (nearest snorm a) (nearest snorm b) e q)) (λ q. q) (eq-or-lt-of-le (nearest-mono snorm a b h));
+      top = fit .near;
+    }
+
+nan-distinct : (snorm : Bool) → Distinct snorm (levelsBetween snorm nan nan)
+unfolding levelsBetween apart
+nan-distinct true = rw (at-nan true .0, at-nan true .1, at-nan true .2) (record { order = lit< tt; top = omega arith })
+nan-distinct false = rw (at-nan false .0, at-nan false .1, at-nan false .2) (record { order = lit< tt; top = omega arith })
+
+format-nan : (snorm : Bool) → inFormat snorm nan ≡ nan
+format-nan true = clamp-nan
+format-nan false = refl
+
+format-mono : (snorm : Bool) (x y : Float) → le x y ≡ true → le (inFormat snorm x) (inFormat snorm y) ≡ true
+format-mono true x y h = clamp-mono x y h
+format-mono false x y h = h
+
+pub levels-distinct : (snorm : Bool) (e0 e1 : Float) → Distinct snorm (levelsOf snorm e0 e1)
+unfolding levelsOf
+levels-distinct snorm e0 e1 = ⊎-elim nans numbers (min-max e0 e1)
+  where
+    nans : (minOf e0 e1 ≡ nan) × (maxOf e0 e1 ≡ nan) → Distinct snorm (levelsBetween snorm (inFormat snorm (minOf e0 e1)) (inFormat snorm (maxOf e0 e1)))
+    nans n = rw (n .0, n .1, format-nan snorm) (nan-distinct snorm)
+    numbers : le (minOf e0 e1) (maxOf e0 e1) ≡ true → Distinct snorm (levelsBetween snorm (inFormat snorm (minOf e0 e1)) (inFormat snorm (maxOf e0 e1)))
+    numbers h = between-distinct snorm _ _ (format-mono snorm (minOf e0 e1) (maxOf e0 e1) h) (fitting snorm (maxOf e0 e1))
