@@ -3,13 +3,10 @@ use mathlib.Core.Path.{_≡_, refl, sym, ap}
 use Prim.Native.Nat.{ℕ, _≤_}
 use native.Mathlib.Omega.{arith}
 use mathlib.Core.Bool.{Bool, true, false}
-use lib.IntN.{ℤ, pos, negsuc}
-use lib.Signed.{ltZ, leZ}
 use lib.Ieee.{Float, lt, le}
-use borrow.Author.Tests.{ltb-true, lt-leb}
 use Rattle.floats.specs.Arithmetic.{f1}
 use Rattle.floats.proofs.Tests.{clash}
-use Rattle.values.specs.Values.{steps, fromNorm, levelByte, levelValue, signedOf, byteBelow}
+use Rattle.values.specs.Values.{steps, levelByte, levelValue, byteBelow}
 use Rattle.values.proofs.Levels.{levelValue-lt, level-back, fromNorm-never-128}
 use Rattle.values.proofs.SignedBytes.{level-order}
 use Rattle.end_points.specs.declared.EndPoints.{EndPoints}
@@ -26,19 +23,12 @@ of-levels-sound : (snorm : Bool) (m n : ℕ) → m ≤ steps snorm → n ≤ ste
 unfolding ofBytes
 of-levels-sound snorm m n h k = record { c0-written = byte-written snorm m h; c1-written = byte-written snorm n k; c0-float = refl; c1-float = refl }
 
--- a byte above another is not at most it
-not-at-most : (a b : ℤ) → ltZ b a ≡ true → leZ a b ≡ false
-not-at-most (pos a) (pos b) h = lt-leb a b (ltb-true b a h)
-not-at-most (pos a) (negsuc b) h = refl
-not-at-most (negsuc a) (pos b) h = clash h refl
-not-at-most (negsuc a) (negsuc b) h = lt-leb b a (ltb-true a b h)
-
 -- the swap is never made
 pub inter6-is : (snorm : Bool) (e0 e1 : Float) → inter6 snorm e0 e1 ≡ ofBytes snorm (levelByte snorm (levelsOf snorm e0 e1 .high)) (levelByte snorm (levelsOf snorm e0 e1 .low))
 unfolding inter6 swapped
 inter6-is true e0 e1 =
     let d = levels-distinct true e0 e1 in
-    rw (not-at-most (signedOf (fromNorm (levelsOf true e0 e1 .high))) (signedOf (fromNorm (levelsOf true e0 e1 .low))) (level-order true (levelsOf true e0 e1 .low) (levelsOf true e0 e1 .high) (d .order) (d .top)))
+    rw (level-order true (levelsOf true e0 e1 .low) (levelsOf true e0 e1 .high) (d .order) (d .top))
 inter6-is false e0 e1 = refl
 
 pub inter6-sound : (snorm : Bool) (e0 e1 : Float) → Sound snorm (inter6 snorm e0 e1)

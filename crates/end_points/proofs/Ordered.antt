@@ -1,5 +1,5 @@
 -- The two levels of any two floats, NaN included, differ, the low one first, and are in the format. Assumes nothing.
-use mathlib.Core.Path.{_≡_, refl}
+use mathlib.Core.Path.{_≡_, refl, sym, _∙_}
 use mathlib.Core.Logic.{⊎-elim}
 use Prim.Native.Nat.{ℕ, zero, suc, _+_, _-_, _≤_, _<_}
 use native.Mathlib.Nat.{eq-or-lt-of-le}
@@ -7,7 +7,7 @@ use native.Mathlib.Omega.{arith}
 use mathlib.Core.Bool.{Bool, true, false, cond}
 use lib.Dec.{eqb, lit<}
 use lib.Ieee.{Float, nan, le}
-use borrow.Author.Tests.{eqb-true, eqb-false}
+use borrow.Author.Tests.{eqb-true, eqb-false, eq-eqb, ne-eqb}
 use Rattle.floats.specs.Helpers.{minOf, maxOf}
 use Rattle.floats.proofs.Order.{le-right}
 use Rattle.floats.proofs.Ranges.{clamp-nan, clamp-mono, min-max}
@@ -20,6 +20,9 @@ use Rattle.end_points.proofs.Rounded.{Fitting, fitting, nearest-mono, d
 pub record Distinct (snorm : Bool) (l : Levels) : Type 0 where
   pub order : l .low < l .high
   pub top : l .high ≤ steps snorm
+
+pub low-le : (snorm : Bool) (l : Levels) → Distinct snorm l → l .low ≤ steps snorm
+low-le snorm l d = omega (arith, d .order, d .top)
 
 one-step : (snorm : Bool) → 1 ≤ steps snorm
 one-step true = omega arith
@@ -38,6 +41,15 @@ apart-distinct snorm low high h k = go (eqb low high) refl (eqb low 0) refl
         less (suc low) high e n = omega arith
     go false e t z = record { order = ⊎-elim (λ q. absurd (eqb-false low high e q)) (λ q. q) (eq-or-lt-of-le h); top = k }
 
+-- the two cases, with the nearest levels under names of the code's
+pub between-same : (snorm : Bool) (a b : Float) (x y : ℕ) → x ≡ nearest snorm a → y ≡ nearest snorm b → x ≡ y → levelsBetween snorm a b ≡ apart (roundedDown snorm a) (roundedUp snorm b)
+unfolding levelsBetween
+between-same snorm a b x y p q h = simp (eq-eqb (nearest snorm a) (nearest snorm b) (sym p ∙ h ∙ q))
+
+pub between-other : (snorm : Bool) (a b : Float) (x y : ℕ) → x ≡ nearest snorm a → y ≡ nearest snorm b → (x ≡ y → ⊥) → levelsBetween snorm a b ≡ levels x y
+unfolding levelsBetween
+between-other snorm a b x y p q h = simp (ne-eqb (nearest snorm a) (nearest snorm b) (λ e. h (p ∙ e ∙ sym q))) (rw (p, q) refl)
+
 between-distinct : (snorm : Bool) (a b : Float) → le a b ≡ true → Fitting snorm b → Distinct snorm (levelsBetween snorm a b)
 unfolding levelsBetween
 between-distinct snorm a b h fit = go (eqb (nearest snorm a) (nearest snorm b)) refl
@@ -47,6 +59,7 @@ between-distinct snorm a b h fit = go (eqb (nearest snorm a) (nearest snorm b)) 
         let m : roundedDown snorm a ≤ roundedDown snorm b = down-mono snorm a b h in
         let r : roundedDown snorm b + downFromTop snorm b ≤ steps snorm = room snorm b (le-right a b h) (fit .down) (fit .top) in
         omega arith
+
     go : (s : Bool) → eqb (nearest snorm a) (nearest snorm b) ≡ s
         → Distinct snorm (cond s (apart (roundedDown snorm a) (roundedUp snorm b)) (levels (nearest snorm a) (nearest snorm b)))
     go true e = apart-distinct snorm (roundedDown snorm a) (roundedUp snorm b) outwards (omega arith)
@@ -74,5 +87,6 @@ levels-distinct snorm e0 e1 = ⊎-elim nans numbers (min-max e0 e1)
   where
     nans : (minOf e0 e1 ≡ nan) × (maxOf e0 e1 ≡ nan) → Distinct snorm (levelsBetween snorm (inFormat snorm (minOf e0 e1)) (inFormat snorm (maxOf e0 e1)))
     nans n = rw (n .0, n .1, format-nan snorm) (nan-distinct snorm)
+
     numbers : le (minOf e0 e1) (maxOf e0 e1) ≡ true → Distinct snorm (levelsBetween snorm (inFormat snorm (minOf e0 e1)) (inFormat snorm (maxOf e0 e1)))
     numbers h = between-distinct snorm _ _ (format-mono snorm (minOf e0 e1) (maxOf e0 e1) h) (fitting snorm (maxOf e0 e1))

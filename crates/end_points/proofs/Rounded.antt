@@ -68,6 +68,7 @@ fitting true x = ⊎-elim no-number number (either (isNan x))
   where
     no-number : isNan x ≡ true → Fitting true (clampOf x)
     no-number e = rw (is-nan x e, clamp-nan) (record { near = omega (arith, at-nan true .0); down = omega (arith, at-nan true .1); top = omega (arith, at-nan true .2) })
+
     number : isNan x ≡ false → Fitting true (clampOf x)
     number e =
         let d : roundedDown true (clampOf x) ≤ roundedDown true f1 = down-mono true (clampOf x) f1 (clamp-to-1 x e) in
@@ -103,8 +104,10 @@ room snorm x real down top = go (roundedDown snorm x) refl down
       where
         from-above : (k : ℕ) → downFromTop snorm (middle snorm k) + suc k ≤ steps snorm → downFromTop snorm x ≤ downFromTop snorm (middle snorm k) → suc k + downFromTop snorm x ≤ steps snorm
         from-above k g m = omega arith
+
         from-below : (k : ℕ) → roundedDown snorm (middle snorm k) < suc k → roundedDown snorm x ≡ suc k → roundedDown snorm x ≤ roundedDown snorm (middle snorm k) → ⊥
         from-below k l e m = omega arith
+
     go : (n : ℕ) → roundedDown snorm x ≡ n → n ≤ steps snorm → n + downFromTop snorm x ≤ steps snorm
     go zero e h = omega arith
     go (suc k) e h = at-middle k e (at (parted snorm) (steps snorm) (every-parted snorm) k (omega arith))

@@ -1,11 +1,10 @@
 -- The endpoints of a block: two bytes and the floats that they stand for. bc4.rs, `EndPoints`.
 use Prim.Native.Nat.{ℕ}
 use mathlib.Core.Path.{_≡_}
-use mathlib.Core.Bool.{Bool, true, cond, _&&_}
-use lib.Signed.{leZ}
+use mathlib.Core.Bool.{Bool, true, not, cond, _&&_}
 use lib.Ieee.{Float}
 use Rattle.floats.specs.declared.Pair.{Pair}
-use Rattle.values.specs.Values.{levelByte, levelValue, valueOf, signedOf}
+use Rattle.values.specs.Values.{levelByte, levelValue, valueOf, byteBelow}
 use Rattle.end_points.specs.declared.EndPoints.{EndPoints}
 use Rattle.end_points.specs.Levels.{nearest, levelsOf}
 
@@ -23,7 +22,7 @@ quantized snorm e0 e1 = record { 0 = levelValue snorm (levelsOf snorm e0 e1 .hig
 
 -- Six-value mode wants c0 above c1. Signed bytes are swapped where they are not; that they always are is `inter6-sound`.
 unfoldable pub swapped : Bool → ℕ → ℕ → EndPoints
-swapped snorm c0 c1 = cond (snorm && leZ (signedOf c0) (signedOf c1)) (ofBytes snorm c1 c0) (ofBytes snorm c0 c1)
+swapped snorm c0 c1 = cond (snorm && not (byteBelow snorm c1 c0)) (ofBytes snorm c1 c0) (ofBytes snorm c0 c1)
 
 unfoldable pub inter6 : Bool → Float → Float → EndPoints
 inter6 snorm e0 e1 = swapped snorm (levelByte snorm (levelsOf snorm e0 e1 .high)) (levelByte snorm (levelsOf snorm e0 e1 .low))

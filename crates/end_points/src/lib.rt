@@ -59,14 +59,12 @@ impl EndPoints {
         )
     }
 
-    // As the Rust has it: `swap` where the signed bytes are not in order.
+    // The Rust's `swap` where the signed bytes are not in order.
     fn swapped(c0: u8, c1: u8, snorm: bool) -> Self
         ensures { λ r. ⌜ r ≡ swappedOf snorm c0 c1 ⌝ }
     {
-        if snorm {
-            if values::s8::as_i8(c0) <= values::s8::as_i8(c1) {
-                return Self::of_bytes(c1, c0, snorm);
-            }
+        if snorm & !values::byte_below(c1, c0, snorm) {
+            return Self::of_bytes(c1, c0, snorm);
         }
         Self::of_bytes(c0, c1, snorm)
     }

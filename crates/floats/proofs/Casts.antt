@@ -57,8 +57,10 @@ cast-mono w (fin false m e) (fin true n d) h =
       where
         one-more : (a : ℕ) → 0 < suc a
         one-more a = omega arith
+
         some : (n : ℕ) → 0 < n → n ≡ 0 → ⊥
         some n h e = omega arith
+
     nothing : (n : ℕ) → n ≤ 0 → n ≡ 0
     nothing n h = omega arith
 cast-mono w (fin false m e) (fin false n d) h =
@@ -134,9 +136,14 @@ tests : (x : Float) →
     (le (bits 0x4000_0000) x ≡ leb 2 (byteOf x)) × (le (bits 0x4040_0000) x ≡ leb 3 (byteOf x)) × (le (bits 0x4080_0000) x ≡ leb 4 (byteOf x))
     × (le (bits 0x40a0_0000) x ≡ leb 5 (byteOf x)) × (le (bits 0x40c0_0000) x ≡ leb 6 (byteOf x)) × (le (bits 0x40e0_0000) x ≡ leb 7 (byteOf x))
 unfolding ofBits
-tests x =
-    (threshold 8 1 1 x (lit< tt) (lit< tt), threshold 8 3 0 x (lit< tt) (lit< tt), threshold 8 1 2 x (lit< tt) (lit< tt),
-    threshold 8 5 0 x (lit< tt) (lit< tt), threshold 8 3 1 x (lit< tt) (lit< tt), threshold 8 7 0 x (lit< tt) (lit< tt))
+tests x = (
+  threshold 8 1 1 x (lit< tt) (lit< tt),
+  threshold 8 3 0 x (lit< tt) (lit< tt),
+  threshold 8 1 2 x (lit< tt) (lit< tt),
+  threshold 8 5 0 x (lit< tt) (lit< tt),
+  threshold 8 3 1 x (lit< tt) (lit< tt),
+  threshold 8 7 0 x (lit< tt) (lit< tt),
+)
 
 pub seven-is : (x : Float) → seven x ≡ byteUpTo7 x
 seven-is x =

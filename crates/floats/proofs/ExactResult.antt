@@ -124,4 +124,3 @@ div-at f (fin u m e) (fin v n k) s t a c b d C D B p q =
     ∙ ap (λ (z : ℕ). a * down e * z) (mul-comm (n * up k) d)
     ∙ mul-mul-mul-comm a (down e) d (n * up k)
     ∙ ap (λ (z : ℕ). a * d * z) (mul-comm (down e) (n * up k)))
-

@@ -81,8 +81,10 @@ round-leq f false true a c b d C D h = rw (round-zero f false a c C (factor a d 
       where
         one-more : (a : ℕ) → 0 < suc a
         one-more a = omega arith
+
         some : (n : ℕ) → 0 < n → n ≡ 0 → ⊥
         some n h e = omega arith
+
     zeros : (f : Format) → le (round f false 0 1) (round f true 0 1) ≡ true
     zeros binary32 = unfold round le in refl
     zeros binary64 = unfold round le in refl
@@ -220,9 +222,9 @@ add-fin f u b j s m e t n d h =
     let C = down e * down d * down j in
     let c : 0 < C = mul-pos (mul-pos (down-pos e) (down-pos d)) (down-pos j) in
     let x : add f (fin s m e) (fin u b j) ≡ round f (signOf s P u B) (gap s P u B) C =
-        add-at f (fin s m e) (fin u b j) s u P B C c (refl, over (m * up e) (down e) (down d) (down j)) (refl, third (b * up j) (down e * down d) (down j)) ∙ sum-is f s P u B C in
+    add-at f (fin s m e) (fin u b j) s u P B C c (refl, over (m * up e) (down e) (down d) (down j)) (refl, third (b * up j) (down e * down d) (down j)) ∙ sum-is f s P u B C in
     let y : add f (fin t n d) (fin u b j) ≡ round f (signOf t Q u B) (gap t Q u B) C =
-        add-at f (fin t n d) (fin u b j) t u Q B C c (refl, other (n * up d) (down e) (down d) (down j)) (refl, third (b * up j) (down e * down d) (down j)) ∙ sum-is f t Q u B C in
+    add-at f (fin t n d) (fin u b j) t u Q B C c (refl, other (n * up d) (down e) (down d) (down j)) (refl, third (b * up j) (down e * down d) (down j)) ∙ sum-is f t Q u B C in
     rw (x, y)
     (round-leq f (signOf s P u B) (signOf t Q u B) (gap s P u B) C (gap t Q u B) C c c
     (leq-scaled (signOf s P u B) (signOf t Q u B) (gap s P u B) (gap t Q u B) C
@@ -230,8 +232,10 @@ add-fin f u b j s m e t n d h =
   where
     over : (x e d j : ℕ) → x * (e * d * j) ≡ x * d * j * e
     over x e d j = simp (mul-assoc, mul-comm, mul-left-comm)
+
     other : (x e d j : ℕ) → x * (e * d * j) ≡ x * e * j * d
     other x e d j = simp (mul-assoc, mul-comm, mul-left-comm)
+
     third : (x a j : ℕ) → x * (a * j) ≡ x * a * j
     third x a j = sym (mul-assoc x a j)
 

@@ -27,6 +27,7 @@ entry-from-0 x = outer (laneMax x f0) (inner (lt f0 x) refl)
     inner : (t : Bool) → lt f0 x ≡ t → le f0 (cond t x f0) ≡ true
     inner true e = le-of-lt f0 x e
     inner false e = le-refl f0 real-0
+
     outer : (y : Float) → le f0 y ≡ true → le f0 (laneMin y f1) ≡ true
     outer y k = pick (lt y f1)
       where

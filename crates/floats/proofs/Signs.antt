@@ -30,9 +30,11 @@ round-signed f s a c =
     in-odd : (d q k l : ℕ) → SignedBy s (odd d s q k l)
     in-odd d zero k l = unfold odd in refl
     in-odd d (suc q) k l = unfold odd in refl
+
     pick : (q k : ℕ) (t : Bool) → SignedBy s (cond t (odd (suc (prec f)) s q k (low f)) (inf s))
     pick q k true = in-odd (suc (prec f)) q k (low f)
     pick q k false = refl
+
     in-units : (q k : ℕ) → SignedBy s (units f s q k)
     in-units q k = unfold units in pick q k (ltb (q * 2 ^ k) (2 ^ (low f + suc (emax f))))
 
@@ -44,9 +46,11 @@ round-mirror f a c =
     in-odd : (d q k l : ℕ) → odd d true q k l ≡ neg (odd d false q k l)
     in-odd d zero k l = unfold odd neg in refl
     in-odd d (suc q) k l = unfold odd neg in refl
+
     pick : (q k : ℕ) (t : Bool) → cond t (odd (suc (prec f)) true q k (low f)) (inf true) ≡ neg (cond t (odd (suc (prec f)) false q k (low f)) (inf false))
     pick q k true = in-odd (suc (prec f)) q k (low f)
     pick q k false = unfold neg in refl
+
     in-units : (q k : ℕ) → units f true q k ≡ neg (units f false q k)
     in-units q k = unfold units in pick q k (ltb (q * 2 ^ k) (2 ^ (low f + suc (emax f))))
 
@@ -104,12 +108,14 @@ under-zero m e = lt-ltb 0 (suc m * up e * 1 + 0 * down e) (sum (suc m * up e) (d
 -- what is not zero, and not negative
 pub over-zero : (m : ℕ) (e : ℤ) → (lt (fin false (suc m) e) f0 ≡ false) × (eq (fin false (suc m) e) f0 ≡ false)
 unfolding lt eq ofBits
-over-zero m e =
-    (le-ltb (suc m * up e * 1) (0 * down e) (under (suc m * up e) (down e)),
-    ap (λ (t : Bool). t && true) (ne-eqb (suc m * up e * 1) (0 * down e) (other (suc m * up e) (down e) (mul-pos (suc-pos m) (up-pos e)))))
+over-zero m e = (
+  le-ltb (suc m * up e * 1) (0 * down e) (under (suc m * up e) (down e)),
+  ap (λ (t : Bool). t && true) (ne-eqb (suc m * up e * 1) (0 * down e) (other (suc m * up e) (down e) (mul-pos (suc-pos m) (up-pos e)))),
+)
   where
     under : (a d : ℕ) → 0 * d ≤ a * 1
     under a d = omega arith
+
     other : (a d : ℕ) → 0 < a → a * 1 ≡ 0 * d → ⊥
     other a d h e = omega arith
 
@@ -122,6 +128,7 @@ abs-is (fin s zero e) h = at-zero s e (zero-exp e (unfold fits in so h))
     plain : (s : Bool) → cond (lt (fin s 0 (pos 0)) f0) (neg (fin s 0 (pos 0))) (cond (eq (fin s 0 (pos 0)) f0) f0 (fin s 0 (pos 0))) ≡ fin false 0 (pos 0)
     plain true = unfold lt eq neg ofBits in refl
     plain false = unfold lt eq neg ofBits in refl
+
     at-zero : (s : Bool) (e : ℤ) → e ≡ pos 0 → cond (lt (fin s 0 e) f0) (neg (fin s 0 e)) (cond (eq (fin s 0 e) f0) f0 (fin s 0 e)) ≡ fin false 0 e
     at-zero s e h = rw h (plain s)
 abs-is (fin true (suc m) e) h = rw (under-zero m e) (unfold neg in refl)

@@ -48,6 +48,7 @@ cut-is s m e h =
   where
     uncap : (q : ℕ) → min q (2 ^ 64 - 1) < 2 ^ 23 → min q (2 ^ 64 - 1) ≡ q
     uncap q h = omega arith
+
     few : (q n : ℕ) → n ≡ q → n < 2 ^ 23 → q ≤ 2 ^ 24
     few q n e h = omega arith
 
@@ -59,6 +60,7 @@ trunc-small (fin s zero e) p h = at-zero s e (zero-exp e (unfold fits in so p))
     plain : (s : Bool) (F : Float) → cond (lt (fin s 0 (pos 0)) f0) (neg F) (cond (eq (fin s 0 (pos 0)) f0) (fin s 0 (pos 0)) F) ≡ fin s 0 (pos 0)
     plain true F = unfold lt eq ofBits in refl
     plain false F = unfold lt eq ofBits in refl
+
     at-zero : (s : Bool) (e : ℤ) → e ≡ pos 0 → cond (lt (fin s 0 e) f0) (neg (cut (fin s 0 e))) (cond (eq (fin s 0 e) f0) (fin s 0 e) (cut (fin s 0 e))) ≡ truncOf (fin s 0 e)
     at-zero s e h = rw h (plain s (cut (fin s 0 (pos 0))))
 trunc-small (fin true (suc m) e) p h =

@@ -6,7 +6,6 @@ use lib.IntN.{pos}
 
 infixl 65 _⊕_ _⊖_
 infixl 70 _⊗_ _⊘_
-
 abbrev pub _⊕_ : Float → Float → Float
 _⊕_ = add binary32
 

@@ -1,6 +1,6 @@
 // formats.rs: the one-byte value functions, and what both formats share.
 ghost use mathlib.Core.Path.{_≡_};
-ghost use Rattle.values.specs.Values.{steps as stepsOf, levelByte, levelValue, valueOf};
+ghost use Rattle.values.specs.Values.{steps as stepsOf, levelByte, levelValue, valueOf, byteBelow};
 ghost use Prim.Native.Nat.{_≤_};
 
 pub mod n8;
@@ -36,4 +36,14 @@ pub fn value(b: u8, snorm: bool) -> f32
     ensures { λ r. ⌜ r ≡ valueOf snorm b ⌝ }
 {
     if snorm { s8::uf32(b) } else { n8::f32(b) }
+}
+
+// Order is compared on the bytes as written, signed for snorm: whether a is below b.
+pub fn byte_below(a: u8, b: u8, snorm: bool) -> bool
+    ensures { λ r. ⌜ r ≡ byteBelow snorm a b ⌝ }
+{
+    if snorm {
+        return s8::as_i8(a) < s8::as_i8(b);
+    }
+    a < b
 }

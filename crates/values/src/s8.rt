@@ -4,6 +4,7 @@ ghost use Prim.Native.Nat.{_≤_};
 ghost use Rattle.values.specs.Values.{normOf, fromNorm, levelValue, valueOf, signedOf};
 
 const K0: f32 = 31.0;
+
 const K1: f32 = 1.0 / (254.0 * K0);
 
 // Brings it in the range 0 to 254.

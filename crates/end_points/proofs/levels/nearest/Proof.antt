@@ -1,0 +1,15 @@
+use borrow.Author.Needs.{needs}
+use Rattle.end_points.proofs.levels.nearest.Statement.{statement}
+use Rattle.end_points.proofs.levels.nearest.Tie as tie
+
+scale-requires : tie.Need-scale-requires
+scale-requires c κs = search needs
+
+byte-of-requires : tie.Need-byte-of-requires
+byte-of-requires c κs = search needs
+
+returns : tie.Need-returns
+returns c = cc
+
+pub nearest-spec : {M : Type 1} → statement M
+nearest-spec = tie.close (tie.spec scale-requires byte-of-requires returns)
