@@ -16,6 +16,7 @@ use Rattle.floats.specs.Arithmetic.{bits, f1, f255}
 use Rattle.floats.specs.Helpers.{byteOf, byteUpTo7}
 use Rattle.floats.proofs.Tests.{so, iff, clash, leb-not-ltb}
 use Rattle.floats.proofs.Fractions.{le-plain}
+use Rattle.floats.proofs.SignedOrder.{zero-factor}
 use Rattle.floats.proofs.Order.{le-right, lt-of-not, lt-trans, lt-le-trans}
 
 -- ---- a cast keeps the order
@@ -52,14 +53,7 @@ cast-mono w (fin false m e) (fin true n d) h =
     zero-min (m * up e / down e) 0 (2 ^ w - 1) (nothing _ q)
   where
     none : (a d p : ℕ) → 0 < d → a * d ≡ 0 → a * 1 ≤ 0 * p
-    none zero d p D z = omega arith
-    none (suc a) d p D z = absurd (some (suc a * d) (mul-pos (one-more a) D) z)
-      where
-        one-more : (a : ℕ) → 0 < suc a
-        one-more a = omega arith
-
-        some : (n : ℕ) → 0 < n → n ≡ 0 → ⊥
-        some n h e = omega arith
+    none a d p D z = let e : a ≡ 0 = zero-factor a d D z in omega arith
 
     nothing : (n : ℕ) → n ≤ 0 → n ≡ 0
     nothing n h = omega arith

@@ -2,12 +2,13 @@
 pub mod Tests
 pub mod Fractions
 pub mod Order
+pub mod ExactResult
+pub mod SignedOrder
 pub mod Casts
 pub mod Signs
 pub mod WholePart
 pub mod Scan
 pub mod Ranges
-pub mod ExactResult
 pub mod Monotone
 pub mod Bounds
 pub mod Rounding

@@ -1,10 +1,10 @@
 -- The operations keep the order, for all floats: rounding, a product with a factor above 0, a sum with a finite term; a difference turns it round.
 -- Overflow, subnormals, infinities and zeros of either sign are all covered. Assumes nothing.
 use mathlib.Core.Path.{_≡_, refl, sym, ap, ap₂, _∙_, subst}
-use Prim.Native.Nat.{ℕ, zero, suc, _+_, _-_, _*_, _≤_, _<_}
-use native.Mathlib.Nat.{mul-pos, mul-comm, mul-assoc, mul-left-comm, mul-le-mul-right, zero-mul}
+use Prim.Native.Nat.{ℕ, _*_, _≤_, _<_}
+use native.Mathlib.Nat.{mul-pos, mul-comm, mul-assoc, mul-left-comm, zero-mul}
 use native.Mathlib.Omega.{arith}
-use mathlib.Core.Bool.{Bool, true, false, _&&_, _||_, cond}
+use mathlib.Core.Bool.{Bool, true, false, _&&_, _||_}
 use lib.IntN.{ℤ}
 use lib.Dec.{T, ltb, eqb, eqb→eq, ltb→lt, lit<}
 use lib.Ieee.{Float, nan, inf, fin, Format, binary32, binary64, up, down, round, neg, add, sub, mul, lt, le, eq, isNan}
@@ -13,28 +13,13 @@ use lib.Ieee.Fits.{down-pos, and-l, and-r}
 use lib.Ieee.Order.{round-mono}
 use lib.Ieee.Positive.{positive}
 use lib.Ieee.Scale.{round-same, finite}
-use borrow.Author.Tests.{leb-true, ltb-true, ltb-false, ne-eqb}
+use borrow.Author.Tests.{leb-true, ne-eqb}
 use Rattle.floats.proofs.Tests.{so, clash, leb-not-ltb}
 use Rattle.floats.proofs.Fractions.{le-flip, le-over}
 use Rattle.floats.proofs.Casts.{plain-le}
 use Rattle.floats.proofs.Signs.{SignedBy, round-signed, round-mirror, neg-le}
 use Rattle.floats.proofs.ExactResult.{gap, signOf, sum-is, add-at}
-
--- ---- ±a ≤ ±b
-abbrev Leq : Bool → ℕ → Bool → ℕ → Type 0
-Leq false a false b = a ≤ b
-Leq false a true b = (a ≡ 0) × (b ≡ 0)
-Leq true a false b = T true
-Leq true a true b = b ≤ a
-
-leq-scaled : (s t : Bool) (a b k : ℕ) → Leq s a t b → Leq s (a * k) t (b * k)
-leq-scaled false false a b k h = mul-le-mul-right k h
-leq-scaled false true a b k h = (none a k (h .0), none b k (h .1))
-  where
-    none : (a k : ℕ) → a ≡ 0 → a * k ≡ 0
-    none a k e = ap (λ (z : ℕ). z * k) e ∙ zero-mul k
-leq-scaled true false a b k h = tt
-leq-scaled true true a b k h = mul-le-mul-right k h
+use Rattle.floats.proofs.SignedOrder.{Leq, leq-scaled, zero-factor, sum-leq, gap-comm, sign-comm}
 
 leq-of-le : (s : Bool) (m : ℕ) (e : ℤ) (t : Bool) (n : ℕ) (d : ℤ) → le (fin s m e) (fin t n d) ≡ true → Leq s (m * up e * down d) t (n * up d * down e)
 unfolding le lt eq
@@ -73,18 +58,8 @@ round-zero f s a c C e = round-same f s a c 0 1 C (lit< tt) (ap (λ (z : ℕ). z
 
 pub round-leq : (f : Format) (s t : Bool) (a c b d : ℕ) → 0 < c → 0 < d → Leq s (a * d) t (b * c) → le (round f s a c) (round f t b d) ≡ true
 round-leq f false false a c b d C D h = is-true _ (round-mono f a c b d C D h)
-round-leq f false true a c b d C D h = rw (round-zero f false a c C (factor a d D (h .0)), round-zero f true b d D (factor b c C (h .1))) (zeros f)
+round-leq f false true a c b d C D h = rw (round-zero f false a c C (zero-factor a d D (h .0)), round-zero f true b d D (zero-factor b c C (h .1))) (zeros f)
   where
-    factor : (a d : ℕ) → 0 < d → a * d ≡ 0 → a ≡ 0
-    factor zero d D e = refl
-    factor (suc a) d D e = absurd (some (suc a * d) (mul-pos (one-more a) D) e)
-      where
-        one-more : (a : ℕ) → 0 < suc a
-        one-more a = omega arith
-
-        some : (n : ℕ) → 0 < n → n ≡ 0 → ⊥
-        some n h e = omega arith
-
     zeros : (f : Format) → le (round f false 0 1) (round f true 0 1) ≡ true
     zeros binary32 = unfold round le in refl
     zeros binary64 = unfold round le in refl
@@ -166,52 +141,6 @@ mul-mono f (fin false a j) x y p h =
     (mul-fin f a j) x y h
 
 -- ---- a sum with a finite term
--- ±p + ±b ≤ ±q + ±b for ±p ≤ ±q
-sum-leq : (s t u : Bool) (p q b : ℕ) → Leq s p t q → Leq (signOf s p u b) (gap s p u b) (signOf t q u b) (gap t q u b)
-sum-leq false false false p q b h = omega arith
-sum-leq false false true p q b h = go (ltb p b) refl (ltb q b) refl
-  where
-    go : (x : Bool) → ltb p b ≡ x → (y : Bool) → ltb q b ≡ y → Leq (cond x true false) (cond x (b - p) (p - b)) (cond y true false) (cond y (b - q) (q - b))
-    go true e true g = omega arith
-    go true e false g = tt
-    go false e true g = absurd (omega (arith, ltb-false p b e, ltb-true q b g))
-    go false e false g = omega arith
-sum-leq false true false p q b h = go (ltb q b) refl (ltb b q) refl
-  where
-    go : (x : Bool) → ltb q b ≡ x → (y : Bool) → ltb b q ≡ y → Leq false (p + b) (cond x false y) (cond x (b - q) (q - b))
-    go true e y g = omega arith
-    go false e true g = absurd (omega (arith, ltb-true b q g))
-    go false e false g = omega (arith, ltb-false q b e)
-sum-leq false true true p q b h = go (ltb p b) refl
-  where
-    go : (x : Bool) → ltb p b ≡ x → Leq (cond x true false) (cond x (b - p) (p - b)) true (q + b)
-    go true e = omega arith
-    go false e = let k : b ≤ p = ltb-false p b e in omega arith
-sum-leq true false false p q b h = go (ltb p b) refl (ltb b p) refl
-  where
-    go : (x : Bool) → ltb p b ≡ x → (y : Bool) → ltb b p ≡ y → Leq (cond x false y) (cond x (b - p) (p - b)) false (q + b)
-    go true e y g = omega arith
-    go false e true g = tt
-    go false e false g = omega (arith, ltb-false b p g)
-sum-leq true false true p q b h = go (ltb q b)
-  where
-    go : (x : Bool) → Leq true (p + b) (cond x true false) (cond x (b - q) (q - b))
-    go true = omega arith
-    go false = tt
-sum-leq true true false p q b h = go (ltb p b) refl (ltb b p) refl (ltb q b) refl (ltb b q) refl
-  where
-    go : (x : Bool) → ltb p b ≡ x → (y : Bool) → ltb b p ≡ y → (z : Bool) → ltb q b ≡ z → (w : Bool) → ltb b q ≡ w
-        → Leq (cond x false y) (cond x (b - p) (p - b)) (cond z false w) (cond z (b - q) (q - b))
-    go true e y g true d w c = omega arith
-    go true e y g false d w c = absurd (omega (arith, ltb-true p b e, ltb-false q b d))
-    go false e true g true d w c = tt
-    go false e true g false d true c = omega arith
-    go false e true g false d false c = tt
-    go false e false g true d w c = omega (arith, ltb-false b p g)
-    go false e false g false d true c = absurd (omega (arith, ltb-false b p g, ltb-true b q c))
-    go false e false g false d false c = omega (arith, ltb-false b p g)
-sum-leq true true true p q b h = omega arith
-
 -- the three values over one denominator
 add-fin : (f : Format) (u : Bool) (b : ℕ) (j : ℤ) (s : Bool) (m : ℕ) (e : ℤ) (t : Bool) (n : ℕ) (d : ℤ) → le (fin s m e) (fin t n d) ≡ true
     → le (add f (fin s m e) (fin u b j)) (add f (fin t n d) (fin u b j)) ≡ true
@@ -249,36 +178,6 @@ add-mono f (inf s) x y p h = absurd p
 add-mono f (fin u b j) x y p h = extended (λ z. add f z (fin u b j)) (λ s. unfold add in refl) (add-real f u b j) (add-fin f u b j) x y h
 
 -- ---- a sum may be turned round, so a difference from a finite value turns the order round
-gap-apart : (a b : ℕ) → gap true a false b ≡ gap false b true a
-gap-apart a b = go (ltb a b) refl (ltb b a) refl
-  where
-    go : (x : Bool) → ltb a b ≡ x → (y : Bool) → ltb b a ≡ y → cond x (b - a) (a - b) ≡ cond y (a - b) (b - a)
-    go true e true g = absurd (omega (arith, ltb-true a b e, ltb-true b a g))
-    go true e false g = refl
-    go false e true g = refl
-    go false e false g = omega (arith, ltb-false a b e, ltb-false b a g)
-
-gap-comm : (s t : Bool) (a b : ℕ) → gap s a t b ≡ gap t b s a
-gap-comm true true a b = omega arith
-gap-comm false false a b = omega arith
-gap-comm true false a b = gap-apart a b
-gap-comm false true a b = sym (gap-apart b a)
-
-sign-apart : (a b : ℕ) → signOf true a false b ≡ signOf false b true a
-sign-apart a b = go (ltb a b) refl (ltb b a) refl
-  where
-    go : (x : Bool) → ltb a b ≡ x → (y : Bool) → ltb b a ≡ y → cond x false y ≡ cond y true false
-    go true e true g = absurd (omega (arith, ltb-true a b e, ltb-true b a g))
-    go true e false g = refl
-    go false e true g = refl
-    go false e false g = refl
-
-sign-comm : (s t : Bool) (a b : ℕ) → signOf s a t b ≡ signOf t b s a
-sign-comm true true a b = refl
-sign-comm false false a b = refl
-sign-comm true false a b = sign-apart a b
-sign-comm false true a b = sym (sign-apart b a)
-
 pub add-comm : (f : Format) (x y : Float) → add f x y ≡ add f y x
 unfolding add
 add-comm f nan nan = refl

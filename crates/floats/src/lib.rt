@@ -77,7 +77,7 @@ pub fn byte_of(x: f32) -> u8
         return 255;
     }
     if x >= 1.0 {
-        return std::num::truncating_f32_to_u64(x) as u8;
+        return (std::num::truncating_f32_to_u64(x) % 256) as u8;
     }
     0
 }

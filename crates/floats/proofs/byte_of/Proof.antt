@@ -1,4 +1,5 @@
 use native.Mathlib.Omega.{arith}
+use borrow.Author.Needs.{needs}
 use Rattle.floats.proofs.Casts.{byte-full, byte-empty, byte-under, byte-narrow, cut-low, cut-high}
 use Rattle.floats.proofs.byte_of.Statement.{statement}
 use Rattle.floats.proofs.byte_of.Tie as tie
@@ -12,7 +13,7 @@ truncating-f32-to-u64-requires c κs =
     (cut-low x (c .if2 .taken), cut-high x (c .if2 .taken) (c .before .if1 .left))
 
 cast-result : tie.Need-cast-result
-cast-result c = omega (arith, c .truncating-f32-to-u64 .ensures, byte-under (c .before .before .before .args .x) (c .before .before .if1 .left))
+cast-result c = search needs
 
 returns-2 : tie.Need-returns-2
 returns-2 c =

@@ -43,7 +43,12 @@ add-result-6 : tie.Need-add-result-6
 add-result-6 c = search needs
 
 returns : tie.Need-returns
-returns c = cc (seven-is (c .before .before .before .before .before .before .before .args .x))
+returns c =
+    let b5 = c .before .before in
+    let b3 = b5 .before .before in
+    let b1 = b3 .before .before in
+    rw (b1 .one-if .ensures .0, b3 .before .one-if2 .ensures .0, b3 .one-if3 .ensures .0, b5 .before .one-if4 .ensures .0, b5 .one-if5 .ensures .0, c .before .one-if6 .ensures .0, c .one-if7 .ensures .0)
+    (seven-is (b1 .before .args .x))
 
 pub byte-up-to-7-spec : {M : Type 1} → statement M
 byte-up-to-7-spec =

@@ -14,7 +14,7 @@ level-value-requires-2 c κs = search needs
 
 returns : tie.Need-returns
 unfolding quantized
-returns c = cc
+returns c = simp (c .level-value2 .ensures, c .before .level-value .ensures, c .before .before .of-ends .ensures)
 
 pub quantize-spec : {M : Type 1} → statement M
 quantize-spec =

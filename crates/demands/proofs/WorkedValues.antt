@@ -1,0 +1,21 @@
+-- Document 01's values worked by hand, each computed over the definitions. Assumes nothing.
+use mathlib.Core.Path.{refl}
+use lib.Ieee.{ofBits, ofInt, mul, add, sub, div, lt, ne, toUnsigned}
+use Rattle.values.specs.Values.{levelValue}
+use Rattle.index_list.specs.Indexes.{filledTo}
+use Rattle.end_points.specs.Levels.{apart, levelsBetween, levelsOf}
+use Rattle.end_points.specs.EndPoints.{ofBytes, swapped, inter6}
+use Rattle.demands.specs.WorkedValues.{WorkedValues}
+
+pub worked-values : WorkedValues
+unfolding inter6 swapped ofBytes levelsOf levelsBetween apart filledTo ofBits mul add sub lt ne toUnsigned
+worked-values = record {
+  value-1 = (refl, refl, refl);
+  value-2 = (refl, refl);
+  value-3 = (refl, refl);
+  value-4 = (refl, refl);
+  value-5 = (refl, refl);
+  value-6 = (refl, refl);
+  value-7 = refl;
+  value-8 = refl;
+}

@@ -1,0 +1,1 @@
+// Theorems only: specs/ states them, proofs/ shows them.
