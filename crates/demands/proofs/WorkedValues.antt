@@ -1,7 +1,6 @@
 -- Document 01's values worked by hand, each computed over the definitions. Assumes nothing.
 use mathlib.Core.Path.{refl}
-use lib.Ieee.{ofBits, ofInt, mul, add, sub, div, lt, ne, toUnsigned}
-use Rattle.values.specs.Values.{levelValue}
+use lib.Ieee.{ofBits, mul, add, sub, lt, ne, toUnsigned}
 use Rattle.index_list.specs.Indexes.{filledTo}
 use Rattle.end_points.specs.Levels.{apart, levelsBetween, levelsOf}
 use Rattle.end_points.specs.EndPoints.{ofBytes, swapped, inter6}

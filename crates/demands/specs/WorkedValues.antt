@@ -1,7 +1,7 @@
 -- Document 01, "Values worked by hand", as one statement.
 use mathlib.Core.Path.{_≡_}
 use mathlib.Core.List.{List, [], _∷_}
-use mathlib.Core.Bool.{Bool, true, false}
+use mathlib.Core.Bool.{true, false}
 use Prim.Native.Nat.{ℕ}
 use lib.ListN.{drop}
 use lib.Ieee.{nan}

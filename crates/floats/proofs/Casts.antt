@@ -117,10 +117,11 @@ count-is (suc k) n = more (leb (suc k) n) refl (count-is k n)
     more false e h = let g : n < suc k = leb-false (suc k) n e in omega arith
 
 -- the literals 1.0 to 7.0
-abbrev pub seven : Float → ℕ
+abbrev seven : Float → ℕ
 seven x =
-    cond (le f1 x) 1 0 + cond (le (bits 0x4000_0000) x) 1 0 + cond (le (bits 0x4040_0000) x) 1 0 + cond (le (bits 0x4080_0000) x) 1 0
-    + cond (le (bits 0x40a0_0000) x) 1 0 + cond (le (bits 0x40c0_0000) x) 1 0 + cond (le (bits 0x40e0_0000) x) 1 0
+    cond (le f1 x) 1 0 + cond (le (bits 0x4000_0000) x) 1 0
+    + (cond (le (bits 0x4040_0000) x) 1 0 + cond (le (bits 0x4080_0000) x) 1 0)
+    + (cond (le (bits 0x40a0_0000) x) 1 0 + cond (le (bits 0x40c0_0000) x) 1 0 + cond (le (bits 0x40e0_0000) x) 1 0)
 
 at-1 : (x : Float) → le f1 x ≡ leb 1 (byteOf x)
 unfolding ofBits

@@ -80,21 +80,21 @@ infinite f n j true h = rw (ne-eqb n 0 (λ e. omega arith))
 infinite f n j false h = rw (ne-eqb n 0 (λ e. omega arith))
 
 -- below -infinity is nothing, and above it all that is no NaN
-from-bottom : (x : Float) → isNan x ≡ false → le (inf true) x ≡ true
+pub from-bottom : (x : Float) → isNan x ≡ false → le (inf true) x ≡ true
 unfolding le lt eq isNan
 from-bottom nan h = clash refl h
 from-bottom (inf true) h = refl
 from-bottom (inf false) h = refl
 from-bottom (fin s m e) h = refl
 
-to-top : (x : Float) → isNan x ≡ false → le x (inf false) ≡ true
+pub to-top : (x : Float) → isNan x ≡ false → le x (inf false) ≡ true
 unfolding le lt eq isNan
 to-top nan h = clash refl h
 to-top (inf true) h = refl
 to-top (inf false) h = refl
 to-top (fin s m e) h = refl
 
-round-real : (f : Format) (s : Bool) (a c : ℕ) → isNan (round f s a c) ≡ false
+pub round-real : (f : Format) (s : Bool) (a c : ℕ) → isNan (round f s a c) ≡ false
 round-real f s a c = go (round f s a c) (round-signed f s a c)
   where
     go : (x : Float) → SignedBy s x → isNan x ≡ false

@@ -4,8 +4,8 @@ use Prim.Native.Nat.{ℕ}
 use lib.Ieee.{Float, binary32, add, sub, mul, div, ofBits, ofInt}
 use lib.IntN.{pos}
 
-infixl 65 _⊕_ _⊖_
-infixl 70 _⊗_ _⊘_
+infixl 75 _⊕_ _⊖_
+infixl 80 _⊗_ _⊘_
 abbrev pub _⊕_ : Float → Float → Float
 _⊕_ = add binary32
 
@@ -17,6 +17,9 @@ _⊗_ = mul binary32
 
 abbrev pub _⊘_ : Float → Float → Float
 _⊘_ = div binary32
+
+abbrev pub squared : Float → Float
+squared x = x ⊗ x
 
 -- a whole number as f32, `n as f32`
 abbrev pub whole : ℕ → Float

@@ -82,21 +82,18 @@ pub fn byte_of(x: f32) -> u8
     0
 }
 
-fn one_if(t: bool) -> u8
+fn one_if(t: bool) -> u32
     ensures { λ r. ⌜ (r ≡ cond t 1 0) × (r ≤ 1) ⌝ }
 {
     if t { 1 } else { 0 }
 }
 
-// `(x as u8).min(7)` as the number of whole numbers from 1 to 7 that x reaches: no cast, so that a loop over samples vectorises.
-pub fn byte_up_to_7(x: f32) -> u8
+// `(x as u8).min(7)` as the number of whole numbers from 1 to 7 that x reaches. With no cast, and as wide as an f32, it vectorises.
+pub fn byte_up_to_7(x: f32) -> u32
     ensures { λ r. ⌜ r ≡ byteUpTo7 x ⌝ }
 {
-    one_if(x >= 1.0)
-        + one_if(x >= 2.0)
-        + one_if(x >= 3.0)
-        + one_if(x >= 4.0)
-        + one_if(x >= 5.0)
-        + one_if(x >= 6.0)
-        + one_if(x >= 7.0)
+    let low = one_if(x >= 1.0) + one_if(x >= 2.0);
+    let middle = one_if(x >= 3.0) + one_if(x >= 4.0);
+    let high = one_if(x >= 5.0) + one_if(x >= 6.0);
+    (low + middle) + (high + one_if(x >= 7.0))
 }

@@ -1,9 +1,10 @@
 -- Laws of a list of 3-bit indexes, and of the eight bytes that hold it. Assumes nothing.
-use mathlib.Core.Path.{_≡_, ap, _∙_}
+use mathlib.Core.Path.{_≡_, refl, ap, _∙_}
 use mathlib.Core.List.{[], _∷_}
 use mathlib.Core.Logic.{dite}
 use Prim.Native.Nat.{ℕ, zero, suc, _+_, _-_, _*_, _/_, _%_, _^_, _<_, _≤_}
 use native.Mathlib.Nat.{add-mul-div-right, div-eq-of-lt, div-lt-iff-lt-mul, div-one, lt-of-lt-of-le, mul-assoc}
+use native.Mathlib.Numerals.{add-one}
 use native.Mathlib.Decide.{decLt}
 use native.Mathlib.Omega.{arith}
 use lib.Arith.{digits-lt}
@@ -42,6 +43,11 @@ set-lt d i v m small unset le lt =
     let none : setAt d i v / 2 ^ m < 1 = omega (arith, above d i v m small unset le, div-eq-of-lt lt) in
     omega (arith, div-lt-iff-lt-mul (pow-pos m) .0 none)
 
+-- One pixel more.
+pub filled-more : (f : ℕ → ℕ) (n : ℕ) → filledTo f (n + 1) ≡ setAt (filledTo f n) n (f n)
+unfolding filledTo
+filled-more f n = rw add-one
+
 -- n pixels take 3n bits.
 pub filled-lt : (f : ℕ → ℕ) (n : ℕ) → ((k : ℕ) → k < n → f k < 8) → filledTo f n < 2 ^ (3 * n)
 unfolding filledTo
@@ -67,6 +73,12 @@ filled-get f (suc n) small i lt =
     dite (decLt i n)
     (λ h. set-other (filledTo f n) n (f n) i last unset (omega arith) ∙ filled-get f n less i h)
     (λ h. let e : i ≡ n = omega arith in rw e (set-get (filledTo f n) n (f n) last unset))
+
+-- Two rules that agree on the first n pixels fill them alike.
+pub filled-same : (f g : ℕ → ℕ) (n : ℕ) → ((k : ℕ) → k < n → f k ≡ g k) → filledTo f n ≡ filledTo g n
+unfolding filledTo
+filled-same f g zero same = refl
+filled-same f g (suc n) same = rw (filled-same f g n (λ k lt. same k (omega arith)), same n (omega arith))
 
 -- A list made of one value reads as that value at each pixel.
 pub all-get : (v i : ℕ) → v < 8 → i < 16 → indexAt (filledTo (λ k. v) 16) i ≡ v

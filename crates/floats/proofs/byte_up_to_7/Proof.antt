@@ -9,38 +9,38 @@ one-if-requires c κs = search needs
 one-if-requires-2 : tie.Need-one-if-requires-2
 one-if-requires-2 c κs = search needs
 
-add-result : tie.Need-add-result
-add-result c = search needs
+add-low : tie.Need-add-low
+add-low c = search needs
 
 one-if-requires-3 : tie.Need-one-if-requires-3
 one-if-requires-3 c κs = search needs
 
-add-result-2 : tie.Need-add-result-2
-add-result-2 c = search needs
-
 one-if-requires-4 : tie.Need-one-if-requires-4
 one-if-requires-4 c κs = search needs
 
-add-result-3 : tie.Need-add-result-3
-add-result-3 c = search needs
+add-middle : tie.Need-add-middle
+add-middle c = search needs
 
 one-if-requires-5 : tie.Need-one-if-requires-5
 one-if-requires-5 c κs = search needs
 
-add-result-4 : tie.Need-add-result-4
-add-result-4 c = search needs
-
 one-if-requires-6 : tie.Need-one-if-requires-6
 one-if-requires-6 c κs = search needs
 
-add-result-5 : tie.Need-add-result-5
-add-result-5 c = search needs
+add-high : tie.Need-add-high
+add-high c = search needs
+
+add-result : tie.Need-add-result
+add-result c = search needs
 
 one-if-requires-7 : tie.Need-one-if-requires-7
 one-if-requires-7 c κs = search needs
 
-add-result-6 : tie.Need-add-result-6
-add-result-6 c = search needs
+add-result-2 : tie.Need-add-result-2
+add-result-2 c = search needs
+
+add-result-3 : tie.Need-add-result-3
+add-result-3 c = search needs
 
 returns : tie.Need-returns
 returns c =
@@ -56,15 +56,15 @@ byte-up-to-7-spec =
     (tie.spec
     one-if-requires
     one-if-requires-2
-    add-result
+    add-low
     one-if-requires-3
-    add-result-2
     one-if-requires-4
-    add-result-3
+    add-middle
     one-if-requires-5
-    add-result-4
     one-if-requires-6
-    add-result-5
+    add-high
+    add-result
     one-if-requires-7
-    add-result-6
+    add-result-2
+    add-result-3
     returns)

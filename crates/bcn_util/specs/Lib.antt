@@ -1,0 +1,3 @@
+pub mod LeastSquares
+pub mod Diffusion
+pub mod Dither

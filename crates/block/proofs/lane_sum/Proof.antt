@@ -1,0 +1,59 @@
+use mathlib.Core.Path.{refl}
+use Rattle.block.specs.Orders.{downLane, laneSum}
+use borrow.Author.Needs.{needs}
+use Rattle.block.proofs.lane_sum.Statement.{statement}
+use Rattle.block.proofs.lane_sum.Tie as tie
+
+mul-result : tie.Need-mul-result
+mul-result c = search needs
+
+element-copy-out-result : tie.Need-element-copy-out-result
+element-copy-out-result c = search needs
+
+add-result : tie.Need-add-result
+add-result c = search needs
+
+mul-result-2 : tie.Need-mul-result-2
+mul-result-2 c = search needs
+
+element-copy-out-result-2 : tie.Need-element-copy-out-result-2
+element-copy-out-result-2 c = search needs
+
+add-result-2 : tie.Need-add-result-2
+add-result-2 c = search needs
+
+mul-result-3 : tie.Need-mul-result-3
+mul-result-3 c = search needs
+
+element-copy-out-result-3 : tie.Need-element-copy-out-result-3
+element-copy-out-result-3 c = search needs
+
+add-result-3 : tie.Need-add-result-3
+add-result-3 c = search needs
+
+mul-result-4 : tie.Need-mul-result-4
+mul-result-4 c = search needs
+
+element-copy-out-result-4 : tie.Need-element-copy-out-result-4
+element-copy-out-result-4 c = search needs
+
+returns : tie.Need-returns
+unfolding laneSum downLane
+returns c = refl
+
+pub lane-sum-spec : {M : Type 1} → statement M
+lane-sum-spec =
+    tie.close
+    (tie.spec
+    mul-result
+    element-copy-out-result
+    add-result
+    mul-result-2
+    element-copy-out-result-2
+    add-result-2
+    mul-result-3
+    element-copy-out-result-3
+    add-result-3
+    mul-result-4
+    element-copy-out-result-4
+    returns)

@@ -1,0 +1,19 @@
+use borrow.Author.Needs.{needs}
+use Rattle.block.proofs.max_element.Statement.{statement}
+use Rattle.block.proofs.max_element.Tie as tie
+
+lane-max-requires : tie.Need-lane-max-requires
+lane-max-requires c κs = search needs
+
+lane-max-requires-2 : tie.Need-lane-max-requires-2
+lane-max-requires-2 c κs = search needs
+
+lane-max-requires-3 : tie.Need-lane-max-requires-3
+lane-max-requires-3 c κs = search needs
+
+returns : tie.Need-returns
+returns c = cc
+
+pub max-element-spec : {M : Type 1} → statement M
+max-element-spec =
+    tie.close (tie.spec lane-max-requires lane-max-requires-2 lane-max-requires-3 returns)

@@ -1,0 +1,14 @@
+use Rattle.block.specs.Block.{mean}
+use borrow.Author.Needs.{needs}
+use Rattle.block.proofs.mean.Statement.{statement}
+use Rattle.block.proofs.mean.Tie as tie
+
+sum-in-pairs-requires : tie.Need-sum-in-pairs-requires
+sum-in-pairs-requires c κs = search needs
+
+returns : tie.Need-returns
+unfolding mean
+returns c = cc
+
+pub mean-spec : {M : Type 1} → statement M
+mean-spec = tie.close (tie.spec sum-in-pairs-requires returns)

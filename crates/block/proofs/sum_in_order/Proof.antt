@@ -1,0 +1,30 @@
+use Rattle.block.specs.Orders.{sumInOrder}
+use borrow.Author.Needs.{needs}
+use Rattle.block.proofs.sum_in_order.Statement.{statement}
+use Rattle.block.proofs.sum_in_order.Tie as tie
+
+lane-sum-requires : tie.Need-lane-sum-requires
+lane-sum-requires c κs = search needs
+
+lane-sum-requires-2 : tie.Need-lane-sum-requires-2
+lane-sum-requires-2 c κs = search needs
+
+lane-sum-requires-3 : tie.Need-lane-sum-requires-3
+lane-sum-requires-3 c κs = search needs
+
+lane-sum-requires-4 : tie.Need-lane-sum-requires-4
+lane-sum-requires-4 c κs = search needs
+
+returns : tie.Need-returns
+unfolding sumInOrder
+returns c = cc
+
+pub sum-in-order-spec : {M : Type 1} → statement M
+sum-in-order-spec =
+    tie.close
+    (tie.spec
+    lane-sum-requires
+    lane-sum-requires-2
+    lane-sum-requires-3
+    lane-sum-requires-4
+    returns)

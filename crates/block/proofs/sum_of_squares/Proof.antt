@@ -1,0 +1,25 @@
+use Rattle.block.specs.Orders.{sumOfSquares}
+use borrow.Author.Needs.{needs}
+use Rattle.block.proofs.sum_of_squares.Statement.{statement}
+use Rattle.block.proofs.sum_of_squares.Tie as tie
+
+row-dot-requires : tie.Need-row-dot-requires
+row-dot-requires c κs = search needs
+
+row-dot-requires-2 : tie.Need-row-dot-requires-2
+row-dot-requires-2 c κs = search needs
+
+row-dot-requires-3 : tie.Need-row-dot-requires-3
+row-dot-requires-3 c κs = search needs
+
+row-dot-requires-4 : tie.Need-row-dot-requires-4
+row-dot-requires-4 c κs = search needs
+
+returns : tie.Need-returns
+unfolding sumOfSquares
+returns c = cc
+
+pub sum-of-squares-spec : {M : Type 1} → statement M
+sum-of-squares-spec =
+    tie.close
+    (tie.spec row-dot-requires row-dot-requires-2 row-dot-requires-3 row-dot-requires-4 returns)

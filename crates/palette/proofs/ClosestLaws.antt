@@ -1,0 +1,111 @@
+-- `closest` answers an index below 8, and the value is the palette's entry there. Assumes nothing.
+use mathlib.Core.Path.{_≡_, refl, ap₂}
+use mathlib.Core.Bool.{Bool, true, false, cond}
+use mathlib.Core.List.{List, [], _∷_}
+use Prim.Native.Nat.{ℕ, zero, suc, _%_, _≤_, _<_, min}
+use native.Mathlib.Nat.{mod-eq-of-lt}
+use native.Mathlib.Omega.{arith}
+use lib.ListN.{getD}
+use lib.Ieee.{Float, lt, le}
+use Rattle.floats.specs.Arithmetic.{_⊖_, half}
+use Rattle.floats.specs.Helpers.{absOf, byteOf}
+use Rattle.floats.proofs.Squares.{square-abs}
+use Rattle.block.specs.Samples.{tabulate, perPixel}
+use Rattle.block.specs.Orders.{rowDot, sumOfSquares}
+use Rattle.block.proofs.Fill.{getD-tabulate}
+use Rattle.index_list.specs.Indexes.{filledTo}
+use Rattle.index_list.proofs.Laws.{filled-same}
+use Rattle.index_list.specs.declared.IndexList.{IndexList}
+use Rattle.palette.specs.declared.Indexed.{Indexed}
+use Rattle.palette.specs.declared.inter4.Nearest.{Nearest}
+use Rattle.palette.specs.declared.inter6.Inter6Palette.{Inter6Palette}
+use Rattle.palette.specs.Palettes.{entry, indexMap}
+use Rattle.palette.specs.Closest.{blend, blend7, closest6, defaultOf, nearerOf, nearestTo, closest4}
+
+-- ---- four values
+-- a choice between two records, field by field as the code makes it
+pub nearest-fields : (t : Bool) (k : ℕ) (e : Float) (n : Nearest) → record { index = cond t k (n .index); error = cond t e (n .error) } ≡ cond t (record { index = k; error = e }) n
+nearest-fields true k e n = refl
+nearest-fields false k e n = refl
+
+default-lt : (x : Float) → defaultOf x .index < 8
+unfolding defaultOf
+default-lt x = go (le half x)
+  where
+    go : (t : Bool) → cond t 7 6 < 8
+    go true = omega arith
+    go false = omega arith
+
+nearer-lt : (n : Nearest) (k : ℕ) (color x : Float) → n .index < 8 → k < 8 → nearerOf n k color x .index < 8
+unfolding nearerOf
+nearer-lt n k color x h l = go (lt (absOf (x ⊖ color)) (n .error))
+  where
+    go : (t : Bool) → cond t (record { index = k; error = absOf (x ⊖ color) }) n .index < 8
+    go true = l
+    go false = h
+
+nearest-lt : (c : List Float) (x : Float) (k : ℕ) → k ≤ 8 → nearestTo c x k .index < 8
+unfolding nearestTo
+nearest-lt c x zero h = default-lt x
+nearest-lt c x (suc k) h = nearer-lt (nearestTo c x k) k (entry c k) x (nearest-lt c x k (omega arith)) (omega arith)
+
+pub nearest6-lt : (c : List Float) (x : Float) → nearestTo c x 6 .index < 8
+nearest6-lt c x = nearest-lt c x 6 (omega arith)
+
+pub closest4-lt : (c : List Float) (x : Float) → closest4 c x .index < 8
+unfolding closest4
+closest4-lt c x = nearest6-lt c x
+
+-- ---- six values
+pub map-lt : (k : ℕ) → k ≤ 7 → getD indexMap k 0 < 8
+map-lt zero h = omega arith
+map-lt (suc zero) h = omega arith
+map-lt (suc (suc zero)) h = omega arith
+map-lt (suc (suc (suc zero))) h = omega arith
+map-lt (suc (suc (suc (suc zero)))) h = omega arith
+map-lt (suc (suc (suc (suc (suc zero))))) h = omega arith
+map-lt (suc (suc (suc (suc (suc (suc zero)))))) h = omega arith
+map-lt (suc (suc (suc (suc (suc (suc (suc zero))))))) h = omega arith
+map-lt (suc (suc (suc (suc (suc (suc (suc (suc k)))))))) h = absurd (omega arith)
+
+pub blend7-le : (p : Inter6Palette) (x : Float) → blend7 p x ≤ 7
+blend7-le p x = capped (byteOf (blend p x))
+  where
+    capped : (n : ℕ) → min n 7 ≤ 7
+    capped n = omega arith
+
+pub closest6-lt : (p : Inter6Palette) (x : Float) → closest6 p x .index < 8
+unfolding closest6
+closest6-lt p x = map-lt (blend7 p x) (blend7-le p x)
+
+-- ---- a whole block
+-- what the code packs, by way of an array of sixteen numbers below 8 and a map
+pub block-indexes : (k map : List ℕ) (f rule : ℕ → ℕ) → k ≡ perPixel f → ((i : ℕ) → f i < 8) → ((i : ℕ) → getD map (f i) 0 ≡ rule i)
+    → filledTo (λ i. getD map (getD k i 0 % 8) 0) 16 ≡ filledTo rule 16
+block-indexes k map f rule e small same = filled-same _ rule 16 (λ i h. rw (e, getD-tabulate f 0 16 i h, mod-eq-of-lt (small i)) (same i))
+
+abbrev indexed : ℕ → Float → Indexed
+indexed d total = record { indexes = record { «data» = d }; error = total }
+
+-- a square does not show the sign of an error
+pub sum-abs : (g : ℕ → Float) → sumOfSquares (perPixel g) ≡ sumOfSquares (perPixel (λ i. absOf (g i)))
+unfolding sumOfSquares rowDot tabulate
+sum-abs g = simp square-abs
+
+abbrev pub sameMap : List ℕ
+sameMap = 0 ∷ 1 ∷ 2 ∷ 3 ∷ 4 ∷ 5 ∷ 6 ∷ 7 ∷ []
+
+pub same-map : (k : ℕ) → k < 8 → getD sameMap k 0 ≡ k
+same-map zero h = refl
+same-map (suc zero) h = refl
+same-map (suc (suc zero)) h = refl
+same-map (suc (suc (suc zero))) h = refl
+same-map (suc (suc (suc (suc zero)))) h = refl
+same-map (suc (suc (suc (suc (suc zero))))) h = refl
+same-map (suc (suc (suc (suc (suc (suc zero)))))) h = refl
+same-map (suc (suc (suc (suc (suc (suc (suc zero))))))) h = refl
+same-map (suc (suc (suc (suc (suc (suc (suc (suc k)))))))) h = absurd (omega arith)
+
+pub indexed-is : (list : IndexList) (error : Float) (d : ℕ) (total : Float) → list .«data» ≡ d → error ≡ total
+    → indexed (list .«data») error ≡ indexed d total
+indexed-is list error d total p q = ap₂ (λ (n : ℕ) (t : Float). indexed n t) p q

@@ -1,0 +1,2 @@
+pub mod LeastSquare
+pub mod ClosestLaws

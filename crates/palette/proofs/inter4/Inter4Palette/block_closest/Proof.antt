@@ -1,0 +1,108 @@
+use mathlib.Core.Path.{refl, ap, _∙_}
+use mathlib.Core.List.{List}
+use Prim.Native.Nat.{ℕ, _≤_, _<_, _-_}
+use native.Mathlib.Omega.{arith}
+use lib.Ieee.{Float, nan}
+use borrow.Author.Needs.{needs}
+use Rattle.block.specs.Samples.{pixelAt}
+use Rattle.block.specs.Orders.{sumOfSquares}
+use Rattle.block.proofs.Fill.{Filled, fill-start, fill-step, fill-end}
+use Rattle.palette.specs.Closest.{nearestTo, closest4}
+use Rattle.palette.proofs.ClosestLaws.{nearest6-lt, sameMap, same-map, block-indexes, indexed-is}
+use Rattle.palette.proofs.inter4.Inter4Palette.block_closest.Statement.{statement}
+use Rattle.palette.proofs.inter4.Inter4Palette.block_closest.Tie as tie
+
+-- the index and the error of pixel i
+abbrev index : List Float → List Float → ℕ → ℕ
+index colors b i = nearestTo colors (pixelAt b i) 6 .index
+
+abbrev off : List Float → List Float → ℕ → Float
+off colors b i = nearestTo colors (pixelAt b i) 6 .error
+
+abbrev Inv-loop : tie.InvT-loop
+Inv-loop self b k₀ e₀ i₀ k e i = (i ≤ 16) × Filled 0 (index (self .colors) b) 16 k i × Filled nan (off (self .colors) b) 16 e i
+
+abbrev μ-loop : tie.MeasureT-loop
+μ-loop self b k₀ e₀ i₀ k e i = 16 - i
+
+loop-holds : tie.Need-loop-holds Inv-loop μ-loop
+loop-holds c = (search needs, fill-start 0 _ 16 _ refl, fill-start nan _ 16 _ refl)
+
+mul-nearest : tie.Need-mul-nearest Inv-loop μ-loop
+mul-nearest c = search needs
+
+element-copy-out-nearest : tie.Need-element-copy-out-nearest Inv-loop μ-loop
+element-copy-out-nearest c = search needs
+
+nearest-requires : tie.Need-nearest-requires Inv-loop μ-loop
+nearest-requires c κs = search needs
+
+mul-k : tie.Need-mul-k Inv-loop μ-loop
+mul-k c = search needs
+
+array-write-k : tie.Need-array-write-k Inv-loop μ-loop
+array-write-k c = search needs
+
+mul-e : tie.Need-mul-e Inv-loop μ-loop
+mul-e c = search needs
+
+array-write-e : tie.Need-array-write-e Inv-loop μ-loop
+array-write-e c = search needs
+
+add-i : tie.Need-add-i Inv-loop μ-loop
+add-i c = search needs
+
+loop-less : tie.Need-loop-less Inv-loop μ-loop
+loop-less c = search needs
+
+loop-again : tie.Need-loop-again Inv-loop μ-loop
+loop-again c =
+    let h = c .before .before .before in
+    let colors = h .before .args .self .colors in
+    let b = h .before .args .b .now in
+    let t = c .before .before .loop-test .taken in (
+      search needs,
+      fill-step 0 (index colors b) 16 (h .loop .k) (h .loop .i) (c .nearest .result .index) (h .loop .inv .1) t (rw (c .nearest .ensures) refl),
+      fill-step nan (off colors b) 16 (h .loop .e) (h .loop .i) (c .nearest .result .error) (h .loop .inv .2) t (rw (c .nearest .ensures) refl),
+    )
+
+indexes-requires : tie.Need-indexes-requires Inv-loop μ-loop
+indexes-requires c κs = λ j l. rw (same-map j l) l
+
+sum-of-squares-requires : tie.Need-sum-of-squares-requires Inv-loop μ-loop
+sum-of-squares-requires c κs = search needs
+
+returns : tie.Need-returns Inv-loop μ-loop
+unfolding closest4
+returns c =
+    let n = c .before .before in
+    let h = n .before .before .before .before in
+    let colors = h .before .args .self .colors in
+    let b = h .before .args .b .now in
+    let K = fill-end 0 (index colors b) 16 (h .loop .k) (h .loop .i) (h .loop .inv .1) (omega arith) in
+    let E = fill-end nan (off colors b) 16 (h .loop .e) (h .loop .i) (h .loop .inv .2) (omega arith) in
+    let below : (i : ℕ) → index colors b i < 8 = λ i. nearest6-lt colors (pixelAt b i) in
+    let I = n .indexes .ensures ∙ block-indexes (h .loop .k) sameMap (index colors b) (index colors b) K below (λ i. same-map (index colors b i) (below i)) in
+    let S = c .sum-of-squares .ensures ∙ ap sumOfSquares E in
+    indexed-is (n .indexes .result) (c .sum-of-squares .result) _ _ I S
+
+pub block-closest-spec : {M : Type 1} → statement M
+block-closest-spec =
+    tie.close
+    (tie.spec
+    Inv-loop
+    μ-loop
+    loop-holds
+    mul-nearest
+    element-copy-out-nearest
+    nearest-requires
+    mul-k
+    array-write-k
+    mul-e
+    array-write-e
+    add-i
+    loop-less
+    loop-again
+    indexes-requires
+    sum-of-squares-requires
+    returns)

@@ -1,0 +1,25 @@
+use lib.Ieee.{lt}
+use Rattle.palette.proofs.ClosestLaws.{nearest-fields}
+use Rattle.palette.specs.Closest.{nearerOf}
+use borrow.Author.Needs.{needs}
+use Rattle.palette.proofs.inter4.Nearest.or.Statement.{statement}
+use Rattle.palette.proofs.inter4.Nearest.or.Tie as tie
+
+abs-requires : tie.Need-abs-requires
+abs-requires c κs = search needs
+
+pick-index-requires : tie.Need-pick-index-requires
+pick-index-requires c κs = search needs
+
+pick-requires : tie.Need-pick-requires
+pick-requires c κs = search needs
+
+returns : tie.Need-returns
+unfolding nearerOf
+returns c =
+    let abs = c .before .before .before in
+    let a = abs .before .args in
+    cc (nearest-fields (lt (abs .abs .result) (a .self .error)) (a .k) (abs .abs .result) (a .self))
+
+pub or-spec : {M : Type 1} → statement M
+or-spec = tie.close (tie.spec abs-requires pick-index-requires pick-requires returns)

@@ -1,0 +1,28 @@
+use Rattle.palette.specs.Palettes.{valuesOf}
+use borrow.Author.Needs.{needs}
+use Rattle.palette.proofs.values.Statement.{statement}
+use Rattle.palette.proofs.values.Tie as tie
+
+enum-told : tie.Need-enum-told
+enum-told c = search needs
+
+values-requires : tie.Need-values-requires
+values-requires c κs = search needs
+
+enum-told-2 : tie.Need-enum-told-2
+enum-told-2 c = search needs
+
+values-requires-2 : tie.Need-values-requires-2
+values-requires-2 c κs = search needs
+
+returns : tie.Need-returns
+unfolding valuesOf
+returns c = rw (c .before .enum-told .given .1) (c .values .ensures)
+
+returns-2 : tie.Need-returns-2
+unfolding valuesOf
+returns-2 c = rw (c .before .enum-told2 .given .1) (c .values2 .ensures)
+
+pub values-spec : {M : Type 1} → statement M
+values-spec =
+    tie.close (tie.spec enum-told values-requires enum-told-2 values-requires-2 returns returns-2)

@@ -1,0 +1,3 @@
+pub mod Palettes
+pub mod PaletteError
+pub mod Closest

@@ -1,0 +1,136 @@
+// Inter6Palette.
+ghost use mathlib.Core.Path.{_≡_};
+ghost use Prim.Native.Nat.{_≤_, _<_};
+ghost use Rattle.palette.specs.Palettes.{inter6Palette, indexMap, blended as blendedOf, values6};
+ghost use Rattle.palette.specs.Closest.{blend7 as blend7Of, closest6, weight, weights, blockClosest};
+use crate::Closest;
+use crate::Indexed;
+use end_points::EndPoints;
+use index_list::IndexList;
+
+// FACTORS
+const F1: f32 = 1.0 / 7.0;
+
+const F2: f32 = 2.0 / 7.0;
+
+const F3: f32 = 3.0 / 7.0;
+
+const F4: f32 = 4.0 / 7.0;
+
+const F5: f32 = 5.0 / 7.0;
+
+const F6: f32 = 6.0 / 7.0;
+
+// The values that the error function looks at, from c0 to c1.
+pub fn values(c0: f32, c1: f32) -> [f32; 8]
+    ensures { λ r. ⌜ r ≡ values6 c0 c1 ⌝ }
+{
+    let cd = c1 - c0;
+    [
+        c0,
+        c0 + cd * F1,
+        c0 + cd * F2,
+        c0 + cd * F3,
+        c0 + cd * F4,
+        c0 + cd * F5,
+        c0 + cd * F6,
+        c0 + cd * 1.0,
+    ]
+}
+
+pub struct Inter6Palette {
+    pub c0: f32,
+    pub c1: f32,
+    pub factor1: f32,
+    pub factor2: f32,
+    pub add1: f32,
+}
+
+impl Inter6Palette {
+    pub const INDEX_MAP: [u8; 8] = [1, 7, 6, 5, 4, 3, 2, 0];
+
+    pub fn new(c0: f32, c1: f32) -> Self
+        ensures { λ r. ⌜ r ≡ inter6Palette c0 c1 ⌝ }
+    {
+        let factor1 = 7.0 / (c0 - c1);
+        let factor2 = F1 * (c0 - c1);
+        let add1 = 0.5 - c1 * factor1;
+        Self {
+            c0: c0,
+            c1: c1,
+            factor1: factor1,
+            factor2: factor2,
+            add1: add1,
+        }
+    }
+
+    pub fn from_endpoints(e: EndPoints) -> Self
+        ensures { λ r. ⌜ r ≡ inter6Palette (e .«c0_f») (e .«c1_f») ⌝ }
+    {
+        Self::new(e.c0_f, e.c1_f)
+    }
+
+    fn blend7(self, pixel: f32) -> u32
+        ensures { λ r. ⌜ (r ≡ blend7Of self pixel) × (r ≤ 7) ⌝ }
+    {
+        floats::byte_up_to_7(pixel * self.factor1 + self.add1)
+    }
+
+    // k is a blend7.
+    fn blended(self, k: u32) -> f32
+        requires { ⌜ k ≤ 7 ⌝ }
+        ensures { λ r. ⌜ r ≡ blendedOf self k ⌝ }
+    {
+        (k as f32) * self.factor2 + self.c1
+    }
+
+    // `map` is INDEX_MAP: a constant array that is read in a loop would be built anew at each turn.
+    pub fn closest(self, map: &[u8; 8], pixel: f32) -> Closest
+        requires { ⌜ now map ≡ indexMap ⌝ }
+        ensures { λ r. ⌜ r ≡ closest6 self pixel ⌝ }
+    {
+        let k = self.blend7(pixel);
+        let value = self.blended(k);
+        let at = k as usize;
+        Closest {
+            index: map[at],
+            value: value,
+            error: floats::abs(pixel - value),
+        }
+    }
+
+    pub fn closest_weight(self, pixel: f32) -> f32
+        ensures { λ r. ⌜ r ≡ weight self pixel ⌝ }
+    {
+        let blend = floats::lane_min(pixel * self.factor1 + self.add1, 7.0);
+        1.0 - floats::trunc(blend) * F1
+    }
+
+    pub fn block_closest_weights(self, b: &[f32; 16]) -> [f32; 16]
+        ensures { λ r. ⌜ r ≡ weights self (now (b .entry)) ⌝ }
+    {
+        let mut w = [0.0f32; 16];
+        for i in 0..16usize {
+            w[i] = self.closest_weight(b[i]);
+        }
+        w
+    }
+
+    // The error goes without its sign's being cleared: it is only squared.
+    pub fn block_closest(self, b: &[f32; 16]) -> Indexed
+        ensures { λ r. ⌜ r ≡ blockClosest (closest6 self) (now (b .entry)) ⌝ }
+    {
+        let mut k = [0u32; 16];
+        let mut e = [0.0f32; 16];
+        for i in 0..16usize {
+            let n = self.blend7(b[i]);
+            k[i] = n;
+            e[i] = b[i] - self.blended(n);
+        }
+        let map = Self::INDEX_MAP;
+        Indexed {
+            indexes: crate::indexes(&k, &map),
+            error: block::sum_of_squares(&e),
+        }
+    }
+}
