@@ -2,17 +2,20 @@
 use mathlib.Core.Path.{_≡_, refl}
 use mathlib.Core.Bool.{Bool, true, false, _&&_}
 use mathlib.Core.List.{List}
-use Prim.Native.Nat.{ℕ, zero, suc, _+_, _<_}
+use Prim.Native.Nat.{ℕ, zero, suc, _+_, _*_, _<_}
 use native.Mathlib.Numerals.{add-one}
 use native.Mathlib.Omega.{arith}
-use lib.Ieee.{Float}
-use Rattle.floats.specs.Arithmetic.{_⊕_, _⊖_, squared, f0}
+use lib.ListN.{getD}
+use lib.Dec.{T}
+use lib.Ieee.{Float, nan, ofBits, ofInt, div}
+use Rattle.floats.specs.Arithmetic.{_⊕_, _⊖_, _⊘_, squared, whole, f0}
 use Rattle.floats.proofs.Tests.{clash}
+use Rattle.floats.proofs.Table.{all, at, same, same→eq}
 use Rattle.block.specs.Samples.{pixelAt, perPixel}
 use Rattle.index_list.specs.Indexes.{indexAt, setAt, filledTo}
 use Rattle.index_list.proofs.Laws.{filled-unset}
 use Rattle.palette.specs.declared.Closest.{Closest}
-use Rattle.bcn_util.specs.Diffusion.{diffused}
+use Rattle.bcn_util.specs.Diffusion.{sixteenths, weights, diffused}
 use Rattle.bcn_util.specs.Dither.{ditherStep, ditherTo}
 
 pub and-first : (p q : Bool) → (p && q) ≡ true → p ≡ true
@@ -50,3 +53,22 @@ module _ (rule : Float → Closest) (b : List Float) where
 
   pub reached-unset : ((x : Float) → rule x .index < 8) → (i : ℕ) (map : List Float) (d : ℕ) (total : Float) → Reached i map d total → indexAt d i ≡ 0
   reached-unset small i map d total r = rw (r .indexes-is, indexes-filled i) (filled-unset answered i (λ k h. small _) i (omega arith))
+
+-- ---- the table
+right : ℕ → Bool
+right k = same (getD weights k nan) (whole (getD sixteenths k 0) ⊘ whole 16)
+
+every-right : T (all right 20)
+unfolding right weights ofBits ofInt div
+every-right = tt
+
+pub weights-are : (k : ℕ) → k < 20 → getD weights k nan ≡ whole (getD sixteenths k 0) ⊘ whole 16
+unfolding right
+weights-are k h = same→eq _ _ (at right 20 every-right k h)
+
+-- how much of an error is passed on, in sixteenths: nearly all, three quarters in the last column, half in the last row
+abbrev pub rowSum : ℕ → ℕ
+rowSum r = getD sixteenths (4 * r) 0 + getD sixteenths (4 * r + 1) 0 + getD sixteenths (4 * r + 2) 0 + getD sixteenths (4 * r + 3) 0
+
+pub row-sums : (rowSum 0 ≡ 15) × (rowSum 1 ≡ 16) × (rowSum 2 ≡ 16) × (rowSum 3 ≡ 12) × (rowSum 4 ≡ 8)
+row-sums = (refl, refl, refl, refl, refl)

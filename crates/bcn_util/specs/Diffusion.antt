@@ -13,7 +13,11 @@ use lib.Dec.{ltb}
 use lib.Ieee.{Float, nan}
 use Rattle.floats.specs.Arithmetic.{_⊕_, _⊗_, bits, f0, half}
 
--- the twenty sixteenths, a row of four for each column and one for the last row
+-- the table: a row of four for each column and one for the last row
+abbrev pub sixteenths : List ℕ
+sixteenths = 7 ∷ 0 ∷ 6 ∷ 2 ∷ 7 ∷ 3 ∷ 5 ∷ 1 ∷ 7 ∷ 3 ∷ 5 ∷ 1 ∷ 0 ∷ 5 ∷ 7 ∷ 0 ∷ 8 ∷ 0 ∷ 0 ∷ 0 ∷ []
+
+-- as floats, by their bits; that they are these sixteenths is `weights-are` in proofs/
 unfoldable pub weights : List Float
 weights =
     bits 0x3ee0_0000 ∷ f0 ∷ bits 0x3ec0_0000 ∷ bits 0x3e00_0000

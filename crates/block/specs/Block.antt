@@ -29,6 +29,10 @@ largest b = element laneMax (downLane laneMax (pixelAt b))
 unfoldable pub minMax : List Float → Pair
 minMax b = record { 0 = smallest b; 1 = largest b }
 
+-- BC4_MIN_VALUE, 1 / (255 · 7): the smallest value but 0 that a block can hold
+abbrev pub bc4MinValue : Float
+bc4MinValue = bits 0x3a12_dc01
+
 -- With a threshold a sample below it counts as 1 for the minimum, and one above 1 - threshold as 0 for the maximum.
 unfoldable pub lowered : Float → List Float → Float → ℕ → Float
 lowered threshold b m i = laneMin m (cond (le threshold (pixelAt b i)) (pixelAt b i) f1)

@@ -1,9 +1,11 @@
 -- Document 01's values worked by hand, each computed over the definitions. Assumes nothing.
 use mathlib.Core.Path.{refl}
-use lib.Ieee.{ofBits, mul, add, sub, lt, ne, toUnsigned}
+use lib.Ieee.{ofBits, mul, add, sub, lt, le, ne, toUnsigned}
 use Rattle.index_list.specs.Indexes.{filledTo}
 use Rattle.end_points.specs.Levels.{apart, levelsBetween, levelsOf}
 use Rattle.end_points.specs.EndPoints.{ofBytes, swapped, inter6}
+use Rattle.block.specs.Block.{bc4MinValue}
+use Rattle.block.proofs.Laws.{threshold-edges}
 use Rattle.demands.specs.WorkedValues.{WorkedValues}
 
 pub worked-values : WorkedValues
@@ -17,4 +19,5 @@ worked-values = record {
   value-6 = (refl, refl);
   value-7 = refl;
   value-8 = refl;
+  value-12 = λ b each. threshold-edges bc4MinValue b (unfold le in refl) (unfold le in refl) each;
 }

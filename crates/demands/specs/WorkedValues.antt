@@ -2,13 +2,16 @@
 use mathlib.Core.Path.{_≡_}
 use mathlib.Core.List.{List, [], _∷_}
 use mathlib.Core.Bool.{true, false}
-use Prim.Native.Nat.{ℕ}
+use mathlib.Core.Logic.{_⊎_}
+use Prim.Native.Nat.{ℕ, _<_}
 use lib.ListN.{drop}
-use lib.Ieee.{nan}
+use lib.Ieee.{Float, nan}
 use Rattle.floats.specs.Arithmetic.{f0, f1}
 use Rattle.values.specs.Values.{fromNorm}
 use Rattle.index_list.specs.Indexes.{setAt, filledTo}
 use Rattle.index_list.specs.Layout.{packed, bytesOf}
+use Rattle.block.specs.Samples.{pixelAt}
+use Rattle.block.specs.Block.{bc4MinValue, minMaxWithThreshold}
 use Rattle.end_points.specs.declared.EndPoints.{EndPoints}
 use Rattle.end_points.specs.EndPoints.{inter6}
 
@@ -37,3 +40,5 @@ pub record WorkedValues : Type 0 where
   pub value-7 : indexBytes (setAt 0 2 5) ≡ 0x40 ∷ 0x01 ∷ 0 ∷ 0 ∷ 0 ∷ 0 ∷ []
   -- 8: all indexes 7
   pub value-8 : indexBytes (filledTo (λ i. 7) 16) ≡ 0xff ∷ 0xff ∷ 0xff ∷ 0xff ∷ 0xff ∷ 0xff ∷ []
+  -- 12: only 0.0 and 1.0 present, both
+  pub value-12 : (b : List Float) → ((i : ℕ) → i < 16 → (pixelAt b i ≡ f0) ⊎ (pixelAt b i ≡ f1)) → minMaxWithThreshold bc4MinValue b ≡ record { 0 = f1; 1 = f0 }

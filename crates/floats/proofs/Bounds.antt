@@ -13,6 +13,7 @@ use lib.Ieee.Exact.{HasValue}
 use lib.Ieee.Order.{round-mono}
 use lib.Ieee.Back.{round-whole}
 use Rattle.floats.specs.Arithmetic.{f0, f1}
+use Rattle.floats.specs.Helpers.{absOf}
 use Rattle.floats.specs.Bounds.{Within}
 use Rattle.floats.proofs.Tests.{so, clash}
 use Rattle.floats.proofs.Casts.{plain-le}
@@ -103,6 +104,11 @@ mul-within f A B (fin s m e) (inf t) k p q = absurd q
 mul-within f A B (fin s m e) (fin t n d) k p q =
     round-within f (unlike s t) (m * up e * (n * up d)) (down e * down d) (A * B) (mul-pos (down-pos e) (down-pos d))
     (le-trans (mul-le-mul p q) (le-of-eq (simp (mul-assoc, mul-comm, mul-left-comm)))) k
+
+pub abs-within : (B : ℕ) (x : Float) → Within B x → Within B (absOf x)
+abs-within B nan h = h
+abs-within B (inf s) h = h
+abs-within B (fin s m e) h = h
 
 -- ---- what a bound says
 pub within-real : (B : ℕ) (x : Float) → Within B x → isNan x ≡ false

@@ -10,7 +10,9 @@ pub mod WholePart
 pub mod Scan
 pub mod Ranges
 pub mod Monotone
+pub mod Exactly
 pub mod Squares
+pub mod Distances
 pub mod Bounds
 pub mod Rounding
 pub mod RoundedResult

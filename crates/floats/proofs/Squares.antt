@@ -1,17 +1,15 @@
 -- Squares: the square of the least distance is the least square, bit for bit and for all floats, so that code may compare squares and take no
 -- absolute values. Sums of squares are never negative. Assumes nothing.
-use mathlib.Core.Path.{_≡_, refl, sym, ap, _∙_}
+use mathlib.Core.Path.{_≡_, refl}
 use mathlib.Core.Logic.{⊎-elim}
-use Prim.Native.Nat.{ℕ, _+_, _-_, _*_, _/_, _^_, _≤_}
-use native.Mathlib.Nat.{le-antisymm, le-trans, le-of-eq, mul-pos, mul-right-comm, mul-mul-mul-comm, mul-le-mul}
+use Prim.Native.Nat.{ℕ, _+_, _*_, _≤_}
+use native.Mathlib.Nat.{le-antisymm, le-trans, le-of-eq, mul-pos, mul-mul-mul-comm, mul-le-mul}
 use native.Mathlib.Omega.{arith}
 use mathlib.Core.Bool.{Bool, true, false, cond}
-use lib.IntN.{ℤ}
 use lib.Dec.{T}
-use lib.Ieee.{Float, nan, inf, fin, binary32, up, down, low, hid, prec, size, round, sum, add, mul, lt, le, fits, isNan, ofBits, toBits}
-use lib.Ieee.Bits.{is-true, ofBits-toBits}
+use lib.Ieee.{Float, nan, inf, fin, binary32, up, down, round, sum, add, mul, lt, le, fits, isNan, ofBits}
+use lib.Ieee.Bits.{is-true}
 use lib.Ieee.Fits.{down-pos, mul-fits}
-use lib.Ieee.Nearest.{div-same}
 use borrow.Author.Tests.{le-ltb}
 use lib.Ieee.Order.{round-mono}
 use Rattle.floats.specs.Arithmetic.{_⊕_, squared, f0}
@@ -21,6 +19,7 @@ use Rattle.floats.proofs.Order.{le-left, le-right, le-of-lt, le-of-not,
 use Rattle.floats.proofs.Casts.{plain-le}
 use Rattle.floats.proofs.Signs.{SignedBy, round-signed}
 use Rattle.floats.proofs.Monotone.{to-top, round-real}
+use Rattle.floats.proofs.Exactly.{fraction-unique}
 
 -- ---- the sign is clear, or x is a NaN
 abbrev pub Plain : Float → Type 0
@@ -99,15 +98,6 @@ square-mono (fin false m e) (fin false n d) p q h =
     (le-trans (le-of-eq (mul-mul-mul-comm (m * up e) (m * up e) (down d) (down d))) (le-trans (mul-le-mul k k) (le-of-eq (mul-mul-mul-comm (n * up d) (down e) (n * up d) (down e))))))
 
 -- ---- two values that are not negative and at most each other are the same datum, as the format writes a number in one way
-same-bits : (m : ℕ) (e : ℤ) (n : ℕ) (d : ℤ) → m * up e * down d ≡ n * up d * down e → toBits binary32 (fin false m e) ≡ toBits binary32 (fin false n d)
-unfolding toBits
-same-bits m e n d h =
-    ap (λ (k : ℕ). 0 + (size k - prec binary32) * hid binary32 + k / 2 ^ (size k - prec binary32))
-    (div-same (m * up e * 2 ^ low binary32) (down e) (n * up d * 2 ^ low binary32) (down d) (down-pos e) (down-pos d) (scaled (m * up e) (down d) (n * up d) (down e) (2 ^ low binary32) h))
-  where
-    scaled : (a d b e k : ℕ) → a * d ≡ b * e → a * k * d ≡ b * k * e
-    scaled a d b e k h = mul-right-comm a k d ∙ ap (λ (z : ℕ). z * k) h ∙ mul-right-comm b e k
-
 pub le-antisym : (x y : Float) → T (fits binary32 x) → T (fits binary32 y) → Plain x → Plain y → le x y ≡ true → le y x ≡ true → x ≡ y
 le-antisym nan y f g p q h k = clash h (unfold le in refl)
 le-antisym (inf true) y f g p q h k = clash refl p
@@ -123,7 +113,7 @@ le-antisym (fin false m e) (fin true n d) f g p q h k = clash refl q
 le-antisym (fin false m e) (fin false n d) f g p q h k =
     let a : m * up e * down d ≤ n * up d * down e = plain-le (m * up e * down d) (n * up d * down e) (unfold le in h) in
     let b : n * up d * down e ≤ m * up e * down d = plain-le (n * up d * down e) (m * up e * down d) (unfold le in k) in
-    sym (ofBits-toBits binary32 (fin false m e) f) ∙ ap (ofBits binary32) (same-bits m e n d (le-antisymm a b)) ∙ ofBits-toBits binary32 (fin false n d) g
+    fraction-unique m e n d f g (le-antisymm a b)
 
 -- ---- THE LAW: the square of the smaller is the smaller square
 nan-square : (x : Float) → isNan x ≡ true → squared x ≡ nan

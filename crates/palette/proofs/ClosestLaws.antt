@@ -1,13 +1,13 @@
 -- `closest` answers an index below 8, and the value is the palette's entry there. Assumes nothing.
-use mathlib.Core.Path.{_≡_, refl, ap₂}
+use mathlib.Core.Path.{_≡_, refl, ap₂, _∙_}
 use mathlib.Core.Bool.{Bool, true, false, cond}
 use mathlib.Core.List.{List, [], _∷_}
-use Prim.Native.Nat.{ℕ, zero, suc, _%_, _≤_, _<_, min}
+use Prim.Native.Nat.{ℕ, zero, suc, _-_, _%_, _≤_, _<_, min}
 use native.Mathlib.Nat.{mod-eq-of-lt}
 use native.Mathlib.Omega.{arith}
 use lib.ListN.{getD}
 use lib.Ieee.{Float, lt, le}
-use Rattle.floats.specs.Arithmetic.{_⊖_, half}
+use Rattle.floats.specs.Arithmetic.{_⊕_, _⊖_, _⊗_, whole, half}
 use Rattle.floats.specs.Helpers.{absOf, byteOf}
 use Rattle.floats.proofs.Squares.{square-abs}
 use Rattle.block.specs.Samples.{tabulate, perPixel}
@@ -19,7 +19,7 @@ use Rattle.index_list.specs.declared.IndexList.{IndexList}
 use Rattle.palette.specs.declared.Indexed.{Indexed}
 use Rattle.palette.specs.declared.inter4.Nearest.{Nearest}
 use Rattle.palette.specs.declared.inter6.Inter6Palette.{Inter6Palette}
-use Rattle.palette.specs.Palettes.{entry, indexMap}
+use Rattle.palette.specs.Palettes.{entry, indexMap, blended}
 use Rattle.palette.specs.Closest.{blend, blend7, closest6, defaultOf, nearerOf, nearestTo, closest4}
 
 -- ---- four values
@@ -77,6 +77,37 @@ blend7-le p x = capped (byteOf (blend p x))
 pub closest6-lt : (p : Inter6Palette) (x : Float) → closest6 p x .index < 8
 unfolding closest6
 closest6-lt p x = map-lt (blend7 p x) (blend7-le p x)
+
+-- ---- the value is the palette's at that index
+pub closest4-value : (c : List Float) (x : Float) → closest4 c x .value ≡ entry c (closest4 c x .index)
+unfolding closest4
+closest4-value c x = refl
+
+-- how many sevenths towards c0 an index stands for: INDEX_MAP turned round
+abbrev pub seventhsOf : ℕ → ℕ
+seventhsOf zero = 7
+seventhsOf (suc zero) = 0
+seventhsOf (suc (suc k)) = 6 - k
+
+map-back : (k : ℕ) → k ≤ 7 → seventhsOf (getD indexMap k 0) ≡ k
+map-back zero h = refl
+map-back (suc zero) h = refl
+map-back (suc (suc zero)) h = refl
+map-back (suc (suc (suc zero))) h = refl
+map-back (suc (suc (suc (suc zero)))) h = refl
+map-back (suc (suc (suc (suc (suc zero))))) h = refl
+map-back (suc (suc (suc (suc (suc (suc zero)))))) h = refl
+map-back (suc (suc (suc (suc (suc (suc (suc zero))))))) h = refl
+map-back (suc (suc (suc (suc (suc (suc (suc (suc k)))))))) h = absurd (omega arith)
+
+pub closest6-value : (p : Inter6Palette) (x : Float) → closest6 p x .value ≡ blended p (seventhsOf (closest6 p x .index))
+unfolding closest6
+closest6-value p x = rw (map-back (blend7 p x) (blend7-le p x))
+
+-- at index 0 it is 7·factor2 + c1, not c0
+pub closest6-at-0 : (p : Inter6Palette) (x : Float) → closest6 p x .index ≡ 0 → closest6 p x .value ≡ whole 7 ⊗ p .factor2 ⊕ p .c1
+unfolding blended
+closest6-at-0 p x e = closest6-value p x ∙ rw e
 
 -- ---- a whole block
 -- what the code packs, by way of an array of sixteen numbers below 8 and a map

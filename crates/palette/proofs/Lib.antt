@@ -1,2 +1,4 @@
 pub mod LeastSquare
+pub mod EightValues
+pub mod Finite
 pub mod ClosestLaws

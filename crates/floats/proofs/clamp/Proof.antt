@@ -9,7 +9,7 @@ pick-requires-2 : tie.Need-pick-requires-2
 pick-requires-2 c κs = search needs
 
 returns : tie.Need-returns
-returns c = cc
+returns c = rw (c .pick2 .ensures, c .before .pick .ensures)
 
 pub clamp-spec : {M : Type 1} → statement M
 clamp-spec = tie.close (tie.spec pick-requires pick-requires-2 returns)

@@ -9,7 +9,7 @@ lane-min-requires : tie.Need-lane-min-requires
 lane-min-requires c κs = search needs
 
 returns : tie.Need-returns
-returns c = cc
+returns c = rw (c .lane-min .ensures, c .before .lane-max .ensures)
 
 pub entry-clamp-spec : {M : Type 1} → statement M
 entry-clamp-spec = tie.close (tie.spec lane-max-requires lane-min-requires returns)

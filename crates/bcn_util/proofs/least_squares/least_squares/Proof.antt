@@ -20,7 +20,7 @@ dot-in-pairs-requires-2 c κs = search needs
 
 returns : tie.Need-returns
 unfolding leastSquares
-returns c = cc
+returns c = rw (c .dot-in-pairs2 .ensures, c .before .before .dot-in-pairs .ensures, c .before .before .before .before .line2 .ensures, c .before .before .before .before .before .line .ensures, c .before .before .before .before .before .before .matrix .ensures)
 
 pub least-squares-spec : {M : Type 1} → statement M
 least-squares-spec =

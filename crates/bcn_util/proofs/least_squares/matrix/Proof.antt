@@ -23,7 +23,7 @@ or-mean-requires c κs = search needs
 
 returns : tie.Need-returns
 unfolding matrixOf
-returns c = cc
+returns c = rw (c .or-mean .ensures, c .before .from-d .ensures, c .before .before .dot-in-pairs3 .ensures, c .before .before .before .before .before .dot-in-pairs2 .ensures, c .before .before .before .before .before .before .before .dot-in-pairs .ensures, c .before .before .before .before .before .before .before .before .complement .ensures)
 
 pub matrix-spec : {M : Type 1} → statement M
 matrix-spec =

@@ -18,7 +18,7 @@ of-bytes-requires c κs = search needs
 
 returns : tie.Need-returns
 unfolding closest
-returns c = cc
+returns c = rw (c .of-bytes .ensures, c .before .level-byte2 .ensures, c .before .before .level-byte .ensures, c .before .before .before .nearest .ensures)
 
 pub new-closest-spec : {M : Type 1} → statement M
 new-closest-spec =

@@ -11,7 +11,7 @@ inter6-to-inter4-requires c κs = search needs
 
 returns : tie.Need-returns
 unfolding inter4
-returns c = cc
+returns c = rw (c .inter6-to-inter4 .ensures, c .before .new-inter6 .ensures)
 
 pub new-inter4-spec : {M : Type 1} → statement M
 new-inter4-spec = tie.close (tie.spec new-inter6-requires inter6-to-inter4-requires returns)

@@ -23,7 +23,7 @@ swapped-requires c κs = search needs
 
 returns : tie.Need-returns
 unfolding inter6
-returns c = cc
+returns c = rw (c .swapped .ensures, c .before .level-byte2 .ensures, c .before .before .level-byte .ensures, c .before .before .before .of-ends .ensures)
 
 pub new-inter6-spec : {M : Type 1} → statement M
 new-inter6-spec =

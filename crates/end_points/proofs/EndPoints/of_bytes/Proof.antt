@@ -11,7 +11,7 @@ value-requires-2 c κs = search needs
 
 returns : tie.Need-returns
 unfolding ofBytes
-returns c = cc
+returns c = rw (c .value2 .ensures, c .before .value .ensures)
 
 pub of-bytes-spec : {M : Type 1} → statement M
 of-bytes-spec = tie.close (tie.spec value-requires value-requires-2 returns)

@@ -9,7 +9,7 @@ pick-requires : tie.Need-pick-requires
 pick-requires c κs = search needs
 
 returns : tie.Need-returns
-returns c = cc
+returns c = rw (c .pick .ensures, c .before .clamp .ensures)
 
 pub in-format-spec : {M : Type 1} → statement M
 in-format-spec = tie.close (tie.spec clamp-requires pick-requires returns)

@@ -24,7 +24,7 @@ between-requires c κs =
 
 returns : tie.Need-returns
 unfolding levelsOf
-returns c = cc
+returns c = rw (c .between .ensures, c .before .in-format2 .ensures, c .before .before .max .ensures, c .before .before .before .in-format .ensures, c .before .before .before .before .min .ensures)
 
 pub of-ends-spec : {M : Type 1} → statement M
 of-ends-spec =

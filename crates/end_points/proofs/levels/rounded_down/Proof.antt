@@ -9,7 +9,7 @@ byte-of-requires : tie.Need-byte-of-requires
 byte-of-requires c κs = search needs
 
 returns : tie.Need-returns
-returns c = cc
+returns c = rw (c .byte-of .ensures, c .before .scale .ensures)
 
 pub rounded-down-spec : {M : Type 1} → statement M
 rounded-down-spec = tie.close (tie.spec scale-requires byte-of-requires returns)

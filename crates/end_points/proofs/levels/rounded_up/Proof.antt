@@ -15,7 +15,7 @@ sub-result : tie.Need-sub-result
 sub-result c = rw (c .byte-of .ensures, c .before .scale .ensures, c .before .before .steps .ensures) (c .before .before .before .pre)
 
 returns : tie.Need-returns
-returns c = cc
+returns c = rw (c .byte-of .ensures, c .before .scale .ensures, c .before .before .steps .ensures)
 
 pub rounded-up-spec : {M : Type 1} → statement M
 rounded-up-spec =

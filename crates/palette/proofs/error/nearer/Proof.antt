@@ -11,7 +11,7 @@ lane-min-requires c κs = search needs
 
 returns : tie.Need-returns
 unfolding nearerSquare
-returns c = cc
+returns c = rw (c .lane-min .ensures, c .before .squared-distance .ensures)
 
 pub nearer-spec : {M : Type 1} → statement M
 nearer-spec = tie.close (tie.spec squared-distance-requires lane-min-requires returns)

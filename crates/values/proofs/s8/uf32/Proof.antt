@@ -9,7 +9,7 @@ norm-f32-requires : tie.Need-norm-f32-requires
 norm-f32-requires c κs = search needs
 
 returns : tie.Need-returns
-returns c = cc
+returns c = rw (c .norm-f32 .ensures, c .before .norm .ensures)
 
 pub uf32-spec : {M : Type 1} → statement M
 uf32-spec = tie.close (tie.spec norm-requires norm-f32-requires returns)

@@ -26,7 +26,7 @@ array-read-t11 c =
 
 returns : tie.Need-returns
 unfolding closest4
-returns c = cc
+returns c = rw (c .before .nearest .ensures)
 
 pub closest-spec : {M : Type 1} → statement M
 closest-spec = tie.close (tie.spec nearest-requires cast-at cast-t7 mul-t8 array-read-t11 returns)

@@ -44,7 +44,7 @@ or-requires-6 c κs = search needs
 
 returns : tie.Need-returns
 unfolding nearestTo
-returns c = cc
+returns c = rw (c .or6 .ensures, c .before .or5 .ensures, c .before .before .or4 .ensures, c .before .before .before .or3 .ensures, c .before .before .before .before .or2 .ensures, c .before .before .before .before .before .or .ensures, c .before .before .before .before .before .before .default .ensures)
 
 pub nearest-spec : {M : Type 1} → statement M
 nearest-spec =

@@ -11,7 +11,7 @@ pick-requires c κs = search needs
 
 returns : tie.Need-returns
 unfolding defaultOf
-returns c = cc
+returns c = rw (c .pick .ensures, c .before .pick-index .ensures)
 
 pub default-spec : {M : Type 1} → statement M
 default-spec = tie.close (tie.spec pick-index-requires pick-requires returns)

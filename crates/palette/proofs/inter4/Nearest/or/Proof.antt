@@ -1,3 +1,5 @@
+use Rattle.floats.specs.Arithmetic.{_⊖_}
+use Rattle.floats.specs.Helpers.{absOf}
 use lib.Ieee.{lt}
 use Rattle.palette.proofs.ClosestLaws.{nearest-fields}
 use Rattle.palette.specs.Closest.{nearerOf}
@@ -19,7 +21,8 @@ unfolding nearerOf
 returns c =
     let abs = c .before .before .before in
     let a = abs .before .args in
-    cc (nearest-fields (lt (abs .abs .result) (a .self .error)) (a .k) (abs .abs .result) (a .self))
+    let e = absOf (a .pixel ⊖ a .color) in
+    rw (c .pick .ensures, c .before .pick-index .ensures, abs .abs .ensures) (nearest-fields (lt e (a .self .error)) (a .k) e (a .self))
 
 pub or-spec : {M : Type 1} → statement M
 or-spec = tie.close (tie.spec abs-requires pick-index-requires pick-requires returns)

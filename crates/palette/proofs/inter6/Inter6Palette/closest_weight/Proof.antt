@@ -11,7 +11,7 @@ trunc-requires c κs = search needs
 
 returns : tie.Need-returns
 unfolding weight
-returns c = cc
+returns c = rw (c .trunc .ensures, c .before .lane-min .ensures)
 
 pub closest-weight-spec : {M : Type 1} → statement M
 closest-weight-spec = tie.close (tie.spec lane-min-requires trunc-requires returns)
