@@ -1,2 +1,3 @@
 pub mod Fill
+pub mod Extremes
 pub mod Laws

@@ -1,24 +1,23 @@
 -- The palette error of ends and samples in 0..1 is at most 256, so it is finite and no NaN; that of anything is never negative. Assumes nothing.
-use mathlib.Core.Path.{_≡_, refl}
-use mathlib.Core.Bool.{Bool, true, false, cond}
-use mathlib.Core.List.{List, [], _∷_}
-use Prim.Native.Nat.{ℕ, zero, suc, _+_, _*_, _≤_, _<_}
+use mathlib.Core.Path.{_≡_}
+use mathlib.Core.Bool.{Bool, false}
+use mathlib.Core.List.{List, []}
+use Prim.Native.Nat.{ℕ, zero, suc, _<_}
 use native.Mathlib.Omega.{arith}
 use lib.Dec.{lit≤}
 use lib.Ieee.{Float, binary32, lt, ofBits}
 use Rattle.floats.specs.Arithmetic.{_⊕_, _⊖_, _⊗_, squared, bits, f0, f1}
-use Rattle.floats.specs.Helpers.{laneMin}
 use Rattle.floats.specs.Bounds.{Within}
 use Rattle.floats.proofs.Bounds.{add-within, sub-within, mul-within, cond-within, within-up, abs-within, unit-within}
 use Rattle.floats.proofs.Squares.{Plain, squared-plain, add-plain, plain-not-below}
-use Rattle.values.specs.Values.{steps, levelOf, valueOf}
+use Rattle.values.specs.Values.{levelOf, valueOf}
 use Rattle.values.proofs.Levels.{levelValue-unit, level-le}
 use Rattle.block.specs.Samples.{pixelAt, tabulate, perPixel}
 use Rattle.block.specs.Orders.{downLane, laneSum, sumInOrder}
 use Rattle.block.specs.Block.{InUnit}
 use Rattle.palette.specs.declared.Kind.{Kind}
 use Rattle.palette.specs.declared.Kind.the-variants.{Six, Four}
-use Rattle.palette.specs.Palettes.{entry, seventh, fifth1, fifth2, fifth3, fifth4, towards, values6, values4, valuesOf}
+use Rattle.palette.specs.Palettes.{entry, seventh, fifth1, fifth2, fifth3, fifth4, towards, colors, values6, values4, valuesOf}
 use Rattle.palette.specs.PaletteError.{distance, leastTo, miss, paletteError}
 
 -- ---- the literals are within 1
@@ -53,7 +52,7 @@ module _ (c0 c1 : Float) (h0 : Within 1 c0) (h1 : Within 1 c1) where
   values6-near (suc (suc (suc (suc (suc (suc (suc (suc k)))))))) h = absurd (omega arith)
 
   values4-near : Eight (values4 c0 c1)
-  unfolding values4
+  unfolding values4 colors
   values4-near zero h = within-up 1 3 f0 (lit≤ tt) (parts .7)
   values4-near (suc zero) h = within-up 1 3 f1 (lit≤ tt) (parts .6)
   values4-near (suc (suc zero)) h = within-up 1 3 c0 (lit≤ tt) h0

@@ -13,9 +13,7 @@ use Rattle.palette.specs.declared.inter6.Inter6Palette.{Inter6Palette}
 use Rattle.palette.specs.declared.Closest.{Closest}
 use Rattle.palette.specs.declared.inter4.Nearest.{Nearest}
 use Rattle.palette.specs.declared.Indexed.{Indexed}
-use Rattle.palette.specs.declared.Kind.{Kind}
-use Rattle.palette.specs.declared.Kind.the-variants.{Six, Four}
-use Rattle.palette.specs.Palettes.{entry, f7, seventh, inter6Palette, indexMap, blended, colors}
+use Rattle.palette.specs.Palettes.{entry, f7, seventh, indexMap, blended}
 
 -- ---- six values
 -- how many sevenths towards c0, before it is cut to a whole number
@@ -54,11 +52,6 @@ nearestTo c x (suc k) = nearerOf (nearestTo c x k) k (entry c k) x
 
 unfoldable pub closest4 : List Float → Float → Closest
 closest4 c x = record { index = nearestTo c x 6 .index; value = entry c (nearestTo c x 6 .index); error = nearestTo c x 6 .error }
-
--- ---- one palette kind
-unfoldable pub closestOf : Kind → Float → Float → Float → Closest
-closestOf Six c0 c1 x = closest6 (inter6Palette c0 c1) x
-closestOf Four c0 c1 x = closest4 (colors c0 c1) x
 
 -- ---- a whole block, by any rule that answers a sample
 abbrev pub blockClosest : (Float → Closest) → List Float → Indexed

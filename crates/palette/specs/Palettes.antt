@@ -1,7 +1,7 @@
 -- The two palettes of a pair of ends. bc4.rs, `Inter6Palette` and `Inter4Palette`; document 01, "Eight bytes".
 use mathlib.Core.List.{List, [], _∷_}
 use Prim.Native.Nat.{ℕ}
-use lib.ListN.{getD}
+use lib.ListN.{getD, take}
 use lib.Ieee.{Float, nan}
 use Rattle.floats.specs.Arithmetic.{_⊕_, _⊖_, _⊗_, _⊘_, whole, bits, f0, half, f1}
 use Rattle.palette.specs.declared.inter6.Inter6Palette.{Inter6Palette}
@@ -76,16 +76,7 @@ values6 c0 c1 =
     ∷ []
 
 unfoldable pub values4 : Float → Float → List Float
-values4 c0 c1 =
-    f0
-    ∷ f1
-    ∷ c0
-    ∷ c1
-    ∷ c0 ⊗ fifth4 ⊕ c1 ⊗ fifth1
-    ∷ c0 ⊗ fifth3 ⊕ c1 ⊗ fifth2
-    ∷ c0 ⊗ fifth2 ⊕ c1 ⊗ fifth3
-    ∷ c0 ⊗ fifth1 ⊕ c1 ⊗ fifth4
-    ∷ []
+values4 c0 c1 = f0 ∷ f1 ∷ take 6 (colors c0 c1)
 
 unfoldable pub valuesOf : Kind → Float → Float → List Float
 valuesOf Six c0 c1 = values6 c0 c1

@@ -9,22 +9,6 @@ use crate::Indexed;
 use end_points::EndPoints;
 use index_list::IndexList;
 
-// The values that the error function looks at: 0 and 1 first.
-pub fn values(c0: f32, c1: f32) -> [f32; 8]
-    ensures { λ r. ⌜ r ≡ values4 c0 c1 ⌝ }
-{
-    [
-        0.0,
-        1.0,
-        c0,
-        c1,
-        c0 * 0.8 + c1 * 0.2,
-        c0 * 0.6 + c1 * 0.4,
-        c0 * 0.4 + c1 * 0.6,
-        c0 * 0.2 + c1 * 0.8,
-    ]
-}
-
 pub struct Inter4Palette {
     pub colors: [f32; 8],
 }
@@ -131,4 +115,13 @@ impl Inter4Palette {
             error: block::sum_of_squares(&e),
         }
     }
+}
+
+// The values that the error function looks at: 0 and 1 first.
+pub fn values(c0: f32, c1: f32) -> [f32; 8]
+    ensures { λ r. ⌜ r ≡ values4 c0 c1 ⌝ }
+{
+    let p = Inter4Palette::new(c0, c1);
+    let c = p.colors;
+    [0.0, 1.0, c[0], c[1], c[2], c[3], c[4], c[5]]
 }
