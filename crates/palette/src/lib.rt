@@ -33,7 +33,8 @@ pub struct Indexed {
     pub error: f32,
 }
 
-// The list of sixteen entries of a map to indexes; the remainder shows the checker that a number below 8 is one.
+// The list of sixteen entries of a map to indexes. The two callers' maps hold indexes, below 8. The remainder changes nothing: it shows the
+// checker that k's numbers are below 8.
 fn indexes(k: &[u32; 16], map: &[u8; 8]) -> IndexList
     requires { ⌜ ((j : ℕ) → j < 8 → getD (now map) j 0 < 8) ⌝ }
     ensures { λ r. ⌜ r .data ≡ filledTo (λ i. getD (now (map .entry)) (getD (now (k .entry)) i 0 % 8) 0) 16 ⌝ }

@@ -13,7 +13,7 @@ pub fn steps(snorm: bool) -> u8
     if snorm { 254 } else { 255 }
 }
 
-// The byte of a level.
+// The byte of a level. Callers have the level from a rounding into the format, or it is 0.
 pub fn level_byte(level: u8, snorm: bool) -> u8
     requires { ⌜ level ≤ stepsOf snorm ⌝ }
     ensures { λ r. ⌜ r ≡ levelByte snorm level ⌝ }
