@@ -1,0 +1,48 @@
+-- bc4.rs, `compress_inter6` and `compress_inter6_impl`.
+use mathlib.Core.List.{List}
+use mathlib.Core.Bool.{cond}
+use lib.Ieee.{Float, lt}
+use Rattle.floats.specs.Arithmetic.{_⊕_, _⊖_, _⊗_, bits, f0, f1}
+use Rattle.floats.specs.Helpers.{minOf, maxOf, clampOf}
+use Rattle.floats.specs.declared.Pair.{Pair}
+use Rattle.block.specs.Block.{mean}
+use Rattle.palette.specs.declared.Kind.the-variants.{Six}
+use Rattle.palette.specs.Palettes.{inter6Palette}
+use Rattle.palette.specs.Closest.{weights}
+use Rattle.bcn_util.specs.LeastSquares.{leastSquares}
+use Rattle.refine.specs.declared.options.Options.{Options}
+use Rattle.refine.specs.Refining.{refinedEnds}
+use Rattle.compress.specs.declared.coding.Coded.{Coded}
+use Rattle.compress.specs.Coding.{coded6}
+
+-- One fit. It hands back the end of weight 1 first, so that after the first of two fits min and max have changed places.
+unfoldable pub fitted : List Float → Pair → Pair
+fitted b p = let q = leastSquares b (weights (inter6Palette (p .0) (p .1)) b) in record { 0 = clampOf (q .0); 1 = clampOf (q .1) }
+
+unfoldable pub compressedFrom : List Float → Options → Pair → Coded
+compressedFrom b o p = coded6 b (o .snorm) (o .dither) (refinedEnds Six b o (fitted b (fitted b p)))
+
+-- The smallest and largest, 0.95 of the way from the mean, to lessen the weight of outliers.
+abbrev pub nudged : Float → Float → Float
+nudged mean x = mean ⊕ (x ⊖ mean) ⊗ bits 0x3f73_3333
+
+unfoldable pub nudgedPair : List Float → Pair → Pair
+nudgedPair b p = record { 0 = nudged (mean b) (p .0); 1 = nudged (mean b) (p .1) }
+
+-- Five values in place of eight: one end a quarter further out, the one that has more room to move.
+unfoldable pub five : Pair → Pair
+five p =
+    let quarter = (p .1 ⊖ p .0) ⊗ bits 0x3e80_0000 in
+    let min5 = p .0 ⊖ quarter in
+    let max5 = p .1 ⊕ quarter in
+    cond (lt (f1 ⊖ max5) min5) (record { 0 = maxOf min5 f0; 1 = p .1 }) (record { 0 = p .0; 1 = minOf max5 f1 })
+
+-- the second if its error is strictly smaller
+abbrev pub smaller : Coded → Coded → Coded
+smaller best next = cond (lt (next .error) (best .error)) next best
+
+unfoldable pub compressInter6 : List Float → Options → Pair → Coded
+compressInter6 b o p =
+    let near = nudgedPair b p in
+    let best = compressedFrom b o near in
+    cond (o .«size_variations») (smaller best (compressedFrom b o (five near))) best

@@ -1,0 +1,70 @@
+// compress_inter6.
+ghost use mathlib.Core.Path.{_≡_};
+ghost use Rattle.compress.specs.Inter6.{fitted as fittedOf, compressedFrom, nudged as nudgedOf, nudgedPair, five as fiveOf, smaller as smallerOf, compressInter6};
+use crate::coding::Coded;
+use floats::Pair;
+use palette::Kind;
+use palette::inter6::Inter6Palette;
+use refine::options::Options;
+
+fn fitted(b: &[f32; 16], p: Pair) -> Pair
+    ensures { λ r. ⌜ r ≡ fittedOf (now (b .entry)) p ⌝ }
+{
+    let w = Inter6Palette::new(p.0, p.1).block_closest_weights(b);
+    let q = bcn_util::least_squares::least_squares(b, &w);
+    Pair(floats::clamp(q.0), floats::clamp(q.1))
+}
+
+// compress_inter6_impl
+fn compressed_from(b: &[f32; 16], p: Pair, o: Options) -> Coded
+    ensures { λ r. ⌜ r ≡ compressedFrom (now (b .entry)) o p ⌝ }
+{
+    let fit = fitted(b, fitted(b, p));
+    let ends = refine::refine_endpoints(Kind::Six, b, fit.0, fit.1, o);
+    crate::coding::coded6(b, o.snorm, o.dither, ends)
+}
+
+fn nudged(mean: f32, x: f32) -> f32
+    ensures { λ r. ⌜ r ≡ nudgedOf mean x ⌝ }
+{
+    mean + (x - mean) * 0.95
+}
+
+fn nudged_pair(b: &[f32; 16], p: Pair) -> Pair
+    ensures { λ r. ⌜ r ≡ nudgedPair (now (b .entry)) p ⌝ }
+{
+    let mean = block::mean(b);
+    Pair(nudged(mean, p.0), nudged(mean, p.1))
+}
+
+fn five(p: Pair) -> Pair
+    ensures { λ r. ⌜ r ≡ fiveOf p ⌝ }
+{
+    let dist = p.1 - p.0;
+    let min5 = p.0 - dist * 0.25;
+    let max5 = p.1 + dist * 0.25;
+    if min5 > 1.0 - max5 {
+        return Pair(floats::max(min5, 0.0), p.1);
+    }
+    Pair(p.0, floats::min(max5, 1.0))
+}
+
+fn smaller(best: Coded, next: Coded) -> Coded
+    ensures { λ r. ⌜ r ≡ smallerOf best next ⌝ }
+{
+    if next.error < best.error {
+        return next;
+    }
+    best
+}
+
+pub fn compress_inter6(b: &[f32; 16], p: Pair, o: Options) -> Coded
+    ensures { λ r. ⌜ r ≡ compressInter6 (now (b .entry)) o p ⌝ }
+{
+    let near = nudged_pair(b, p);
+    let best = compressed_from(b, near, o);
+    if o.size_variations {
+        return smaller(best, compressed_from(b, five(near), o));
+    }
+    best
+}

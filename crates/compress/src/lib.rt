@@ -1,0 +1,3 @@
+// bc4.rs: the two compressions of a block.
+pub mod coding;
+pub mod inter6;
