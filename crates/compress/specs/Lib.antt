@@ -1,2 +1,4 @@
 pub mod Coding
 pub mod Inter6
+pub mod Sorted
+pub mod Inter4

@@ -1,3 +1,5 @@
 // bc4.rs: the two compressions of a block.
 pub mod coding;
+pub mod inter4;
 pub mod inter6;
+pub mod sorted;

@@ -82,7 +82,8 @@ pub fn byte_of(x: f32) -> u8
     0
 }
 
-fn one_if(t: bool) -> u32
+// A count of one, for a sum of tests.
+pub fn one_if(t: bool) -> u32
     ensures { λ r. ⌜ (r ≡ cond t 1 0) × (r ≤ 1) ⌝ }
 {
     if t { 1 } else { 0 }

@@ -1,0 +1,41 @@
+use Rattle.compress.specs.Inter4.{reassigned}
+use borrow.Author.Needs.{needs}
+use Rattle.compress.proofs.inter4.inter4_reassign_defaults.Statement.{statement}
+use Rattle.compress.proofs.inter4.inter4_reassign_defaults.Tie as tie
+
+far-requires : tie.Need-far-requires
+far-requires c κs = search needs
+
+returns : tie.Need-returns
+unfolding reassigned
+returns c = rw (← c .before .far .ensures, c .if1 .taken)
+
+hold-requires : tie.Need-hold-requires
+hold-requires c κs = search needs
+
+place-of-requires : tie.Need-place-of-requires
+place-of-requires c κs = search needs
+
+place-of-requires-2 : tie.Need-place-of-requires-2
+place-of-requires-2 c κs = search needs
+
+walked-requires : tie.Need-walked-requires
+walked-requires c κs = search needs
+
+returns-2 : tie.Need-returns-2
+unfolding reassigned
+returns-2 c =
+    let k = c .before .before .before in
+    rw (← k .before .before .far .ensures, k .before .if1 .left, c .walked .ensures, c .before .place-of2 .ensures, c .before .before .place-of .ensures, k .hold .ensures)
+
+pub inter4-reassign-defaults-spec : {M : Type 1} → statement M
+inter4-reassign-defaults-spec =
+    tie.close
+    (tie.spec
+    far-requires
+    returns
+    hold-requires
+    place-of-requires
+    place-of-requires-2
+    walked-requires
+    returns-2)

@@ -1,0 +1,109 @@
+-- `lines::lines` meets its contract: after i turns the lines of the first i records stand at the start of `out`. Assumes nothing.
+use mathlib.Core.Path.{_≡_, refl, ap, _∙_}
+use Prim.Native.Nat.{_/_, _+_, _*_, _-_, _≤_}
+use native.Mathlib.Numerals.{add-one}
+use native.Mathlib.Omega.{arith}
+use lib.ListN.{length, take, drop, length-take, length-drop}
+use lib.Seq.{take-paste, length-paste}
+use borrow.Author.Needs.{needs}
+use Rattle.lines.specs.Answers.{linesTo}
+use Rattle.lines.proofs.lines.Statement.{statement}
+use Rattle.lines.proofs.lines.Tie as tie
+
+abbrev Inv-loop : tie.InvT-loop
+Inv-loop input out₀ at₀ i₀ i-end out at i = (i ≤ length input / 68) × (at ≤ i * 17) × (length out ≡ length out₀) × (take at out ≡ linesTo input i)
+
+abbrev μ-loop : tie.MeasureT-loop
+μ-loop input out₀ at₀ i₀ i-end out at i = length input / 68 - i
+
+loop-holds : tie.Need-loop-holds Inv-loop μ-loop
+unfolding linesTo
+loop-holds c = (search needs, search needs, refl, refl)
+
+mul-answer-to : tie.Need-mul-answer-to Inv-loop μ-loop
+mul-answer-to c = search needs
+
+mul-answer-to-2 : tie.Need-mul-answer-to-2 Inv-loop μ-loop
+mul-answer-to-2 c = search needs
+
+add-answer-to : tie.Need-add-answer-to Inv-loop μ-loop
+add-answer-to c = search needs
+
+sub-answer-to : tie.Need-sub-answer-to Inv-loop μ-loop
+sub-answer-to c = search needs
+
+part-answer-to-start : tie.Need-part-answer-to-start Inv-loop μ-loop
+part-answer-to-start c = search needs
+
+part-answer-to-end : tie.Need-part-answer-to-end Inv-loop μ-loop
+part-answer-to-end c = search needs
+
+answer-to-requires : tie.Need-answer-to-requires Inv-loop μ-loop
+answer-to-requires c κs = simp (length-take, length-drop) (omega arith)
+
+line-requires : tie.Need-line-requires Inv-loop μ-loop
+line-requires c κs = search needs
+
+slice-aggregate-copy : tie.Need-slice-aggregate-copy Inv-loop μ-loop
+slice-aggregate-copy c = search needs
+
+copy-requires : tie.Need-copy-requires Inv-loop μ-loop
+copy-requires c κs = (omega arith, omega arith)
+
+add-at : tie.Need-add-at Inv-loop μ-loop
+add-at c = search needs
+
+add-i : tie.Need-add-i Inv-loop μ-loop
+add-i c = search needs
+
+loop-less : tie.Need-loop-less Inv-loop μ-loop
+loop-less c = search needs
+
+loop-again : tie.Need-loop-again Inv-loop μ-loop
+unfolding linesTo
+loop-again c =
+    let copied = c .before .before .copy in
+    let made = c .before .before .before .before .before .before in
+    let l = made .before .before .before .before .loop in
+    let line = made .line in
+    let length-fits : line .result .length ≤ length (line .result .bytes) = omega arith in
+    let fits : l .at + line .result .length ≤ length (l .out) = omega arith in
+    let whole : l .i * 68 + 68 - l .i * 68 ≡ 68 = omega arith in (
+      omega arith,
+      omega arith,
+      ap length (copied .ensures) ∙ length-paste (l .out) (l .at) (line .result .bytes) (line .result .length) fits length-fits ∙ l .inv .2,
+      rw (copied .ensures, take-paste (l .out) (l .at) (line .result .bytes) (line .result .length) (omega arith) length-fits, l .inv .3, line .ensures .same, made .before .answer-to .ensures, whole, add-one),
+    )
+
+same-length : tie.Need-same-length Inv-loop μ-loop
+same-length c = search needs
+
+returns : tie.Need-returns Inv-loop μ-loop
+returns c =
+    let l = c .before .loop in
+    let all : l .i ≡ length (c .before .before .before .before .args .input .now) / 68 = omega arith in
+    (omega arith, rw all at (l .inv .3))
+
+pub lines-spec : {M : Type 1} → statement M
+lines-spec =
+    tie.close
+    (tie.spec
+    Inv-loop
+    μ-loop
+    loop-holds
+    mul-answer-to
+    mul-answer-to-2
+    add-answer-to
+    sub-answer-to
+    part-answer-to-start
+    part-answer-to-end
+    answer-to-requires
+    line-requires
+    slice-aggregate-copy
+    copy-requires
+    add-at
+    add-i
+    loop-less
+    loop-again
+    same-length
+    returns)

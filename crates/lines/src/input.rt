@@ -1,0 +1,99 @@
+// Document 01, "The program": what stands in a record of 68 bytes.
+ghost use mathlib.Core.Path.{_≡_};
+ghost use mathlib.Core.Bool.{false};
+ghost use Prim.Native.Nat.{_<_};
+ghost use lib.ListN.{length};
+ghost use lib.Ieee.{binary32, nanBits};
+ghost use Rattle.lines.specs.Input.{optionsOf, wordOf, patternAt, nanBefore, samplesOf};
+use refine::options::Options;
+use refine::options::Quantization;
+
+// The first four bytes of a record.
+pub enum Word {
+    Formed(Options),
+    Malformed,
+}
+
+fn options(flags: u8, limit: u8, quality: Quantization) -> Options
+    ensures { λ r. ⌜ r ≡ optionsOf flags limit quality ⌝ }
+{
+    Options {
+        dither: flags % 2 == 1,
+        snorm: flags / 2 % 2 == 1,
+        brute_force: flags / 4 % 2 == 1,
+        use_inter4: flags / 8 % 2 == 1,
+        use_inter4_heuristic: flags / 16 % 2 == 1,
+        quantization: quality,
+        fast_iter: flags / 32 % 2 == 1,
+        max_refine_iter: limit,
+        size_variations: flags / 64 % 2 == 1,
+        iter_initial_inter4: flags / 128 % 2 == 1,
+    }
+}
+
+pub fn read_word(bytes: &[u8]) -> Word
+    requires { ⌜ length (now bytes) ≡ 68 ⌝ }
+    ensures { λ r. ⌜ r ≡ wordOf (now (bytes .entry)) ⌝ }
+{
+    let flags = bytes[0];
+    let limit = bytes[1];
+    let quality = bytes[2];
+    if bytes[3] != 0 {
+        return Word::Malformed;
+    }
+    if quality == 0 {
+        return Word::Formed(options(flags, limit, Quantization::Round));
+    }
+    if quality == 1 {
+        return Word::Formed(options(flags, limit, Quantization::MediumQuality));
+    }
+    if quality == 2 {
+        return Word::Formed(options(flags, limit, Quantization::HighQuality));
+    }
+    Word::Malformed
+}
+
+fn wide(x: u8) -> u32
+    ensures { λ r. ⌜ (r ≡ x) × (r < 256) ⌝ }
+{
+    x as u32
+}
+
+// The bits of sample i.
+fn pattern(bytes: &[u8], i: usize) -> u32
+    requires { ⌜ (length (now bytes) ≡ 68) × (i < 16) ⌝ }
+    ensures { λ r. ⌜ r ≡ patternAt (now (bytes .entry)) i ⌝ }
+{
+    let at = 4 + 4 * i;
+    wide(bytes[at])
+        + 256 * (wide(bytes[at + 1]) + 256 * (wide(bytes[at + 2]) + 256 * wide(bytes[at + 3])))
+}
+
+fn is_nan(n: u32) -> bool
+    ensures { λ r. ⌜ r ≡ nanBits binary32 n ⌝ }
+{
+    n % 0x8000_0000 > 0x7f80_0000
+}
+
+pub fn has_nan(bytes: &[u8]) -> bool
+    requires { ⌜ length (now bytes) ≡ 68 ⌝ }
+    ensures { λ r. ⌜ r ≡ nanBefore (now (bytes .entry)) 16 ⌝ }
+{
+    let mut found = false;
+    for i in 0..16usize {
+        found = found | is_nan(pattern(bytes, i));
+    }
+    found
+}
+
+// A caller looks for NaN first: `from_bits` is not defined at a NaN's bits.
+pub fn samples(bytes: &[u8]) -> [f32; 16]
+    requires { ⌜ (length (now bytes) ≡ 68) × (nanBefore (now bytes) 16 ≡ false) ⌝ }
+    ensures { λ r. ⌜ r ≡ samplesOf (now (bytes .entry)) ⌝ }
+{
+    let mut b = [0.0f32; 16];
+    for i in 0..16usize {
+        b[i] = f32::from_bits(pattern(bytes, i));
+    }
+    b
+}

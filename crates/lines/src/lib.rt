@@ -1,0 +1,77 @@
+// Document 01, "The program": a line for each record of 68 bytes.
+ghost use mathlib.Core.Path.{_≡_};
+ghost use Prim.Native.Nat.{_+_, _*_, _/_, _≤_};
+ghost use lib.ListN.{length, take};
+ghost use lib.Seq.{paste};
+ghost use Rattle.lines.specs.Answers.{answerOf, lineOf, linesTo};
+ghost use Rattle.lines.specs.Output.{Holds};
+
+mod input;
+mod output;
+
+use input::Word;
+use output::Line;
+
+// What a record is answered: eight bytes, byte 0 lowest, or a number of document 01's table of refusals.
+pub enum Answer {
+    Block(u64),
+    SampleIsNan,
+    WordMalformed,
+}
+
+// NaN is looked for before the word is: the lowest number that applies is the answer.
+pub fn answer_to(bytes: &[u8]) -> Answer
+    requires { ⌜ length (now bytes) ≡ 68 ⌝ }
+    ensures { λ r. ⌜ r ≡ answerOf (now (bytes .entry)) ⌝ }
+{
+    if input::has_nan(bytes) {
+        return Answer::SampleIsNan;
+    }
+    let word = input::read_word(bytes);
+    match word {
+        Word::Malformed => Answer::WordMalformed,
+        Word::Formed(o) => {
+            let samples = input::samples(bytes);
+            Answer::Block(encode::compress_bc4_block(&samples, o))
+        }
+    }
+}
+
+fn line(answer: Answer) -> Line
+    ensures { λ r. ⌜ Holds r (lineOf answer) ⌝ }
+{
+    match answer {
+        Answer::Block(block) => output::hex(block),
+        Answer::SampleIsNan => output::refused(7),
+        Answer::WordMalformed => output::refused(8),
+    }
+}
+
+// The first n bytes of `source` into `out` from `at` on.
+fn copy(out: &mut [u8], at: usize, source: &[u8], n: usize)
+    requires { ⌜ (n ≤ length (now source)) × (at + n ≤ length (now out)) ⌝ }
+    ensures { λ _. ⌜ now (out .exit) ≡ paste (now (out .entry)) at (now (source .entry)) n ⌝ }
+{
+    let mut i = 0;
+    while i < n {
+        out[at + i] = source[i];
+        i += 1;
+    }
+}
+
+// The lines of all whole records of `input`, at the start of `out`: how many bytes they take. A caller lends room for the longest line of
+// each record.
+pub fn lines(input: &[u8], out: &mut [u8]) -> usize
+    requires { ⌜ length (now input) / 68 * 17 ≤ length (now out) ⌝ }
+    ensures { λ r. ⌜ (r ≤ length (now (out .exit))) × (take r (now (out .exit)) ≡ linesTo (now (input .entry)) (length (now (input .entry)) / 68)) ⌝ }
+{
+    let mut at = 0;
+    for i in 0..input.len() / 68 {
+        let l = line(answer_to(&input[i * 68..i * 68 + 68]));
+        let n = l.length;
+        let bytes = l.bytes;
+        copy(out, at, &bytes, n);
+        at += n;
+    }
+    at
+}
