@@ -21,10 +21,16 @@ indexedBy rule b dither = cond dither (blockDither rule b) (blockClosest rule b)
 abbrev pub written : EndPoints → Indexed → Coded
 written e x = record { bytes = packed (e .c0) (e .c1) (x .indexes .«data»); error = x .error }
 
--- six values
+-- six values, from endpoints and from the floats that they are made of
+unfoldable pub ended6 : List Float → Bool → EndPoints → Coded
+ended6 b dither e = written e (indexedBy (closest6 (inter6Palette (e .«c0_f») (e .«c1_f»))) b dither)
+
 unfoldable pub coded6 : List Float → Bool → Bool → Pair → Coded
-coded6 b snorm dither p = let e = inter6 snorm (p .0) (p .1) in written e (indexedBy (closest6 (inter6Palette (e .«c0_f») (e .«c1_f»))) b dither)
+coded6 b snorm dither p = ended6 b dither (inter6 snorm (p .0) (p .1))
 
 -- four values
+unfoldable pub ended4 : List Float → Bool → EndPoints → Coded
+ended4 b dither e = written e (indexedBy (closest4 (colors (e .«c0_f») (e .«c1_f»))) b dither)
+
 unfoldable pub coded4 : List Float → Bool → Bool → Pair → Coded
-coded4 b snorm dither p = let e = inter4 snorm (p .0) (p .1) in written e (indexedBy (closest4 (colors (e .«c0_f») (e .«c1_f»))) b dither)
+coded4 b snorm dither p = ended4 b dither (inter4 snorm (p .0) (p .1))

@@ -1,7 +1,7 @@
 // What both compressions end with: endpoints, palette, indexes, bytes.
 ghost use mathlib.Core.Path.{_≡_};
 ghost use Rattle.palette.specs.Closest.{closest6, closest4};
-ghost use Rattle.compress.specs.Coding.{indexedBy, written as writtenOf, coded6 as coded6Of, coded4 as coded4Of};
+ghost use Rattle.compress.specs.Coding.{indexedBy, written as writtenOf, ended6 as ended6Of, coded6 as coded6Of, ended4 as ended4Of, coded4 as coded4Of};
 use end_points::EndPoints;
 use floats::Pair;
 use palette::Indexed;
@@ -42,16 +42,26 @@ fn indexed4(p: Inter4Palette, b: &[f32; 16], dither: bool) -> Indexed
     p.block_closest(b)
 }
 
+pub fn ended6(b: &[f32; 16], dither: bool, e: EndPoints) -> Coded
+    ensures { λ r. ⌜ r ≡ ended6Of (now (b .entry)) dither e ⌝ }
+{
+    written(e, indexed6(Inter6Palette::from_endpoints(e), b, dither))
+}
+
 pub fn coded6(b: &[f32; 16], snorm: bool, dither: bool, ends: Pair) -> Coded
     ensures { λ r. ⌜ r ≡ coded6Of (now (b .entry)) snorm dither ends ⌝ }
 {
-    let e = EndPoints::new_inter6(ends.0, ends.1, snorm);
-    written(e, indexed6(Inter6Palette::from_endpoints(e), b, dither))
+    ended6(b, dither, EndPoints::new_inter6(ends.0, ends.1, snorm))
+}
+
+pub fn ended4(b: &[f32; 16], dither: bool, e: EndPoints) -> Coded
+    ensures { λ r. ⌜ r ≡ ended4Of (now (b .entry)) dither e ⌝ }
+{
+    written(e, indexed4(Inter4Palette::from_endpoints(e), b, dither))
 }
 
 pub fn coded4(b: &[f32; 16], snorm: bool, dither: bool, ends: Pair) -> Coded
     ensures { λ r. ⌜ r ≡ coded4Of (now (b .entry)) snorm dither ends ⌝ }
 {
-    let e = EndPoints::new_inter4(ends.0, ends.1, snorm);
-    written(e, indexed4(Inter4Palette::from_endpoints(e), b, dither))
+    ended4(b, dither, EndPoints::new_inter4(ends.0, ends.1, snorm))
 }

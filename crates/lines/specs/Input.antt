@@ -53,11 +53,13 @@ wordOf bytes = cond (eqb (byteAt bytes 3) 0) (byQuality (optionsOf (byteAt bytes
 
 -- ---- the samples
 
+-- four bytes, little-endian
+unfoldable pub fourBytes : List ℕ → ℕ → ℕ
+fourBytes bytes at = byteAt bytes at + 2 ^ 8 * (byteAt bytes (at + 1) + 2 ^ 8 * (byteAt bytes (at + 2) + 2 ^ 8 * byteAt bytes (at + 3)))
+
 -- the bits of sample i
-unfoldable pub patternAt : List ℕ → ℕ → ℕ
-patternAt bytes i =
-    byteAt bytes (4 + 4 * i)
-    + 2 ^ 8 * (byteAt bytes (4 + 4 * i + 1) + 2 ^ 8 * (byteAt bytes (4 + 4 * i + 2) + 2 ^ 8 * byteAt bytes (4 + 4 * i + 3)))
+abbrev pub patternAt : List ℕ → ℕ → ℕ
+patternAt bytes i = fourBytes bytes (4 + 4 * i)
 
 -- whether one of the first n samples is NaN
 unfoldable pub nanBefore : List ℕ → ℕ → Bool

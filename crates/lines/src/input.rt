@@ -1,10 +1,10 @@
 // Document 01, "The program": what stands in a record of 68 bytes.
 ghost use mathlib.Core.Path.{_≡_};
 ghost use mathlib.Core.Bool.{false};
-ghost use Prim.Native.Nat.{_<_};
+ghost use Prim.Native.Nat.{_+_, _<_, _≤_};
 ghost use lib.ListN.{length};
 ghost use lib.Ieee.{binary32, nanBits};
-ghost use Rattle.lines.specs.Input.{optionsOf, wordOf, patternAt, nanBefore, samplesOf};
+ghost use Rattle.lines.specs.Input.{optionsOf, wordOf, fourBytes, patternAt, nanBefore, samplesOf};
 use refine::options::Options;
 use refine::options::Quantization;
 
@@ -59,14 +59,21 @@ fn wide(x: u8) -> u32
     x as u32
 }
 
+// Four bytes from `at` on, little-endian.
+pub fn four_bytes(bytes: &[u8], at: usize) -> u32
+    requires { ⌜ at + 4 ≤ length (now bytes) ⌝ }
+    ensures { λ r. ⌜ r ≡ fourBytes (now (bytes .entry)) at ⌝ }
+{
+    wide(bytes[at])
+        + 256 * (wide(bytes[at + 1]) + 256 * (wide(bytes[at + 2]) + 256 * wide(bytes[at + 3])))
+}
+
 // The bits of sample i.
 fn pattern(bytes: &[u8], i: usize) -> u32
     requires { ⌜ (length (now bytes) ≡ 68) × (i < 16) ⌝ }
     ensures { λ r. ⌜ r ≡ patternAt (now (bytes .entry)) i ⌝ }
 {
-    let at = 4 + 4 * i;
-    wide(bytes[at])
-        + 256 * (wide(bytes[at + 1]) + 256 * (wide(bytes[at + 2]) + 256 * wide(bytes[at + 3])))
+    four_bytes(bytes, 4 + 4 * i)
 }
 
 fn is_nan(n: u32) -> bool

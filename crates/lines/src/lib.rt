@@ -6,7 +6,7 @@ ghost use lib.Seq.{paste};
 ghost use Rattle.lines.specs.Answers.{answerOf, lineOf, linesTo};
 ghost use Rattle.lines.specs.Output.{Holds};
 
-mod input;
+pub mod input;
 mod output;
 
 use input::Word;

@@ -1,15 +1,9 @@
--- `lines::input::pattern` meets its contract. Assumes nothing.
+-- `lines::input::four_bytes` meets its contract. Assumes nothing.
 use native.Mathlib.Omega.{arith}
-use Rattle.lines.specs.Input.{patternAt}
+use Rattle.lines.specs.Input.{fourBytes}
 use borrow.Author.Needs.{needs}
-use Rattle.lines.proofs.input.pattern.Statement.{statement}
-use Rattle.lines.proofs.input.pattern.Tie as tie
-
-mul-at : tie.Need-mul-at
-mul-at c = search needs
-
-add-at : tie.Need-add-at
-add-at c = search needs
+use Rattle.lines.proofs.input.four_bytes.Statement.{statement}
+use Rattle.lines.proofs.input.four_bytes.Tie as tie
 
 shared-slice-read-wide : tie.Need-shared-slice-read-wide
 shared-slice-read-wide c = search needs
@@ -63,15 +57,13 @@ add-result-3 : tie.Need-add-result-3
 add-result-3 c = search needs
 
 returns : tie.Need-returns
-unfolding patternAt
+unfolding fourBytes
 returns c = omega arith
 
-pub pattern-spec : {M : Type 1} → statement M
-pattern-spec =
+pub four-bytes-spec : {M : Type 1} → statement M
+four-bytes-spec =
     tie.close
     (tie.spec
-    mul-at
-    add-at
     shared-slice-read-wide
     wide-requires
     add-wide

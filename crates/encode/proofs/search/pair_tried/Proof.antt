@@ -1,0 +1,30 @@
+use Rattle.encode.specs.Search.{pairTried}
+use borrow.Author.Needs.{needs}
+use Rattle.encode.proofs.search.pair_tried.Statement.{statement}
+use Rattle.encode.proofs.search.pair_tried.Tie as tie
+
+new-inter6-unorm-requires : tie.Need-new-inter6-unorm-requires
+new-inter6-unorm-requires c κs = search needs
+
+tried6-requires : tie.Need-tried6-requires
+tried6-requires c κs = search needs
+
+inter6-to-inter4-requires : tie.Need-inter6-to-inter4-requires
+inter6-to-inter4-requires c κs = search needs
+
+tried4-requires : tie.Need-tried4-requires
+tried4-requires c κs = search needs
+
+returns : tie.Need-returns
+unfolding pairTried
+returns c = rw (c .tried4 .ensures, c .before .inter6-to-inter4 .ensures, c .before .before .tried6 .ensures, c .before .before .before .new-inter6-unorm .ensures)
+
+pub pair-tried-spec : {M : Type 1} → statement M
+pair-tried-spec =
+    tie.close
+    (tie.spec
+    new-inter6-unorm-requires
+    tried6-requires
+    inter6-to-inter4-requires
+    tried4-requires
+    returns)

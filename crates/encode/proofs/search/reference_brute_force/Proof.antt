@@ -1,0 +1,39 @@
+use Rattle.encode.specs.Search.{searched}
+use borrow.Author.Needs.{needs}
+use Rattle.encode.proofs.search.reference_brute_force.Statement.{statement}
+use Rattle.encode.proofs.search.reference_brute_force.Tie as tie
+
+byte-of-requires : tie.Need-byte-of-requires
+byte-of-requires c κs = search needs
+
+byte-of-requires-2 : tie.Need-byte-of-requires-2
+byte-of-requires-2 c κs = search needs
+
+float-from-bits-t6 : tie.Need-float-from-bits-t6
+unfolding lib.Ieee.nanBits
+float-from-bits-t6 c = search needs
+
+cast-mins-tried : tie.Need-cast-mins-tried
+cast-mins-tried c = search needs
+
+cast-mins-tried-2 : tie.Need-cast-mins-tried-2
+cast-mins-tried-2 c = search needs
+
+mins-tried-requires : tie.Need-mins-tried-requires
+mins-tried-requires c κs = search needs
+
+returns : tie.Need-returns
+unfolding searched lib.Ieee.ofBits
+returns c = rw (c .mins-tried .ensures, c .before .byte-of2 .ensures, c .before .before .before .byte-of .ensures)
+
+pub reference-brute-force-spec : {M : Type 1} → statement M
+reference-brute-force-spec =
+    tie.close
+    (tie.spec
+    byte-of-requires
+    byte-of-requires-2
+    float-from-bits-t6
+    cast-mins-tried
+    cast-mins-tried-2
+    mins-tried-requires
+    returns)

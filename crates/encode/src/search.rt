@@ -1,0 +1,87 @@
+// reference_brute_force.
+ghost use mathlib.Core.Path.{_≡_};
+ghost use Prim.Native.Nat.{_<_, _≤_, _-_};
+ghost use Rattle.encode.specs.Search.{tried6 as tried6Of, tried4 as tried4Of, pairTried, maxesTried, minsTried, firstMax, minLimit, leastMax, searched};
+use compress::coding::Coded;
+use end_points::EndPoints;
+use floats::Pair;
+use palette::Kind;
+
+fn tried6(b: &[f32; 16], best: Coded, e: EndPoints) -> Coded
+    ensures { λ r. ⌜ r ≡ tried6Of (now (b .entry)) best e ⌝ }
+{
+    let error = palette::palette_error(Kind::Six, b, e.c0_f, e.c1_f);
+    if error < best.error {
+        let found = compress::coding::ended6(b, false, e);
+        return Coded {
+            bytes: found.bytes,
+            error: error,
+        };
+    }
+    best
+}
+
+fn tried4(b: &[f32; 16], best: Coded, e: EndPoints) -> Coded
+    ensures { λ r. ⌜ r ≡ tried4Of (now (b .entry)) best e ⌝ }
+{
+    let error = palette::palette_error(Kind::Four, b, e.c0_f, e.c1_f);
+    if error < best.error {
+        let found = compress::coding::ended4(b, false, e);
+        return Coded {
+            bytes: found.bytes,
+            error: error,
+        };
+    }
+    best
+}
+
+fn pair_tried(b: &[f32; 16], best: Coded, min: u8, max: u8) -> Coded
+    ensures { λ r. ⌜ r ≡ pairTried (now (b .entry)) best min max ⌝ }
+{
+    let e = EndPoints::new_inter6_unorm(max, min);
+    tried4(b, tried6(b, best, e), e.inter6_to_inter4())
+}
+
+fn maxes_tried(b: &[f32; 16], start: Coded, min: u8, first: u32) -> Coded
+    requires { ⌜ first ≤ 256 ⌝ }
+    ensures { λ r. ⌜ r ≡ maxesTried (now (b .entry)) start min first (256 - first) ⌝ }
+{
+    let mut best = start;
+    for max in first..256u32 {
+        best = pair_tried(b, best, min, max as u8);
+    }
+    best
+}
+
+fn first_max(least: u32, min: u32) -> u32
+    requires { ⌜ (least < 256) × (min < 255) ⌝ }
+    ensures { λ r. ⌜ (r ≡ firstMax least min) × (r ≤ 256) ⌝ }
+{
+    if least < min + 1 {
+        return min + 1;
+    }
+    least
+}
+
+fn mins_tried(b: &[f32; 16], least: u32, start: Coded, limit: u32) -> Coded
+    requires { ⌜ (least < 256) × (limit < 256) ⌝ }
+    ensures { λ r. ⌜ r ≡ minsTried (now (b .entry)) least start limit ⌝ }
+{
+    let mut best = start;
+    for min in 0..limit {
+        best = maxes_tried(b, best, min as u8, first_max(least, min));
+    }
+    best
+}
+
+pub fn reference_brute_force(b: &[f32; 16], p: Pair) -> u64
+    ensures { λ r. ⌜ r ≡ searched (now (b .entry)) p ⌝ }
+{
+    let limit = floats::byte_of(p.1 * 255.0 + 2.0);
+    let least = floats::byte_of(p.0 * 255.0 - 1.0);
+    let start = Coded {
+        bytes: 0,
+        error: f32::from_bits(0x7f80_0000),
+    };
+    mins_tried(b, least as u32, start, limit as u32).bytes
+}

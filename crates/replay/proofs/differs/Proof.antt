@@ -1,0 +1,62 @@
+-- `replay::differs` meets its contract, case by case. Assumes nothing.
+use native.Mathlib.Omega.{arith}
+use lib.ListN.{length-take}
+use Rattle.replay.specs.Entry.{unlike, differsOf}
+use borrow.Author.Needs.{needs}
+use Rattle.replay.proofs.differs.Statement.{statement}
+use Rattle.replay.proofs.differs.Tie as tie
+
+four-bytes-requires : tie.Need-four-bytes-requires
+four-bytes-requires c κs = search needs
+
+four-bytes-requires-2 : tie.Need-four-bytes-requires-2
+four-bytes-requires-2 c κs = search needs
+
+joined-requires : tie.Need-joined-requires
+joined-requires c κs = search needs
+
+slice-aggregate-answer-to : tie.Need-slice-aggregate-answer-to
+slice-aggregate-answer-to c = simp length-take (omega arith)
+
+answer-to-requires : tie.Need-answer-to-requires
+answer-to-requires c κs = simp length-take (omega arith)
+
+enum-known-answer : tie.Need-enum-known-answer
+enum-known-answer c = search needs
+
+enum-told : tie.Need-enum-told
+enum-told c = search needs
+
+enum-told-2 : tie.Need-enum-told-2
+enum-told-2 c = search needs
+
+returns : tie.Need-returns
+unfolding differsOf unlike
+returns c =
+    let a = c .before .before .before in
+    let j = a .before .before in
+    rw (← a .answer-to .ensures, c .before .answer .given .1, j .joined .ensures, j .before .four-bytes2 .ensures, j .before .before .four-bytes .ensures)
+
+returns-2 : tie.Need-returns-2
+unfolding differsOf unlike
+returns-2 c = rw (← c .before .before .answer-to .ensures, c .enum-told .given .1)
+
+returns-3 : tie.Need-returns-3
+unfolding differsOf unlike
+returns-3 c = rw (← c .before .before .answer-to .ensures, c .enum-told2 .given .1)
+
+pub differs-spec : {M : Type 1} → statement M
+differs-spec =
+    tie.close
+    (tie.spec
+    four-bytes-requires
+    four-bytes-requires-2
+    joined-requires
+    slice-aggregate-answer-to
+    answer-to-requires
+    enum-known-answer
+    enum-told
+    enum-told-2
+    returns
+    returns-2
+    returns-3)

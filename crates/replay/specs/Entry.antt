@@ -1,0 +1,22 @@
+-- An entry of the list: a record of 68 bytes, and the eight bytes that the Rust text answered.
+use mathlib.Core.List.{List}
+use mathlib.Core.Bool.{Bool, true, not}
+use Prim.Native.Nat.{ℕ, _+_, _*_, _^_}
+use lib.Dec.{eqb}
+use lib.ListN.{take}
+use Rattle.lines.specs.declared.Answer.{Answer}
+use Rattle.lines.specs.declared.Answer.the-variants.{Block, SampleIsNan, WordMalformed}
+use Rattle.lines.specs.Input.{fourBytes}
+use Rattle.lines.specs.Answers.{answerOf}
+
+-- the eight bytes of the Rust, byte 0 lowest
+abbrev pub rustOf : List ℕ → ℕ
+rustOf entry = fourBytes entry 68 + 2 ^ 32 * fourBytes entry 72
+
+unfoldable pub unlike : Answer → ℕ → Bool
+unlike (Block b) rust = not (eqb b rust)
+unlike SampleIsNan rust = true
+unlike WordMalformed rust = true
+
+unfoldable pub differsOf : List ℕ → Bool
+differsOf entry = unlike (answerOf (take 68 entry)) (rustOf entry)
