@@ -1,4 +1,5 @@
-//! inner [SEED [COUNT]]: each inner function of the Rattle library beside the one of the Rust text.
+//! inner [blocks] [SEED [COUNT]]: each inner function of the Rattle library beside the one of the Rust text. inner time: how
+//! long a call takes.
 //! A child module of the Rust text's bc4.rs, so that it sees the private items. It only calls them.
 use super::*;
 use std::{
@@ -7,6 +8,11 @@ use std::{
     sync::atomic::{AtomicU64, Ordering::Relaxed},
     thread,
 };
+
+#[path = "blocks.rs"]
+mod blocks;
+#[path = "time.rs"]
+mod time;
 
 unsafe extern "C" {
     safe fn inner_abs(x: f32) -> f32;
@@ -33,6 +39,21 @@ unsafe extern "C" {
     safe fn inner_new_all(value: u8) -> u64;
     safe fn inner_get(indexes: u64, index: usize) -> u8;
     safe fn inner_set(indexes: &[u8; 16]) -> u64;
+    safe fn inner_from_raw(samples: &[f32; 16], out: &mut [f32; 16]);
+    safe fn inner_min_max(b: &[f32; 16], out: &mut [f32; 2]);
+    safe fn inner_min_max_with_threshold(b: &[f32; 16], threshold: f32, out: &mut [f32; 2]);
+    safe fn inner_mean(b: &[f32; 16]) -> f32;
+    safe fn inner_palette_error6(b: &[f32; 16], c0: f32, c1: f32) -> f32;
+    safe fn inner_palette_error4(b: &[f32; 16], c0: f32, c1: f32) -> f32;
+    safe fn inner_closest6(c0: f32, c1: f32, pixel: f32, out: &mut [f32; 2]) -> u8;
+    safe fn inner_closest4(c0: f32, c1: f32, pixel: f32, out: &mut [f32; 2]) -> u8;
+    safe fn inner_weights(c0: f32, c1: f32, b: &[f32; 16], out: &mut [f32; 16]);
+    safe fn inner_block_closest6(c0: f32, c1: f32, b: &[f32; 16], data: &mut u64) -> f32;
+    safe fn inner_block_closest4(c0: f32, c1: f32, b: &[f32; 16], data: &mut u64) -> f32;
+    safe fn inner_least_squares(colors: &[f32; 16], w: &[f32; 16], out: &mut [f32; 2]);
+    safe fn inner_dither6(c0: f32, c1: f32, b: &[f32; 16], data: &mut u64) -> f32;
+    safe fn inner_dither4(c0: f32, c1: f32, b: &[f32; 16], data: &mut u64) -> f32;
+    safe fn inner_diffuse(map: &mut [f32; 16], i: usize, error: f32);
 }
 
 /// Puts the inputs 0 to n - 1 to both sides and prints the function's line. Whether all answers agree.
@@ -127,6 +148,17 @@ fn word(seed: u64, i: u64) -> u64 {
     mix(mix(seed.wrapping_add(1)).wrapping_add(i.wrapping_mul(0x9E3779B97F4A7C15)))
 }
 
+/// The float d steps above x.
+fn step(x: f32, d: i32) -> f32 {
+    if x.is_sign_negative() {
+        return -step(-x, -d);
+    }
+    match (x.to_bits() as i32).saturating_add(d) {
+        below @ ..0 => -f32::from_bits(-below as u32),
+        b => f32::from_bits(b as u32),
+    }
+}
+
 /// NaNs, infinities, zeros, subnormals and values out of range; and in both formats the value of each level and the middle of
 /// each two levels, where rounding turns, with three floats on either side.
 fn edges() -> Vec<f32> {
@@ -135,10 +167,7 @@ fn edges() -> Vec<f32> {
     for steps in [255, 254] {
         for half in 0..=2 * steps {
             let at = (half as f64 / (2 * steps) as f64) as f32;
-            set.extend((-3..=3).map(|d| match at.to_bits() as i32 + d {
-                below @ ..0 => -f32::from_bits(-below as u32),
-                b => f32::from_bits(b as u32),
-            }));
+            set.extend((-3..=3).map(|d| step(at, d)));
         }
     }
     set.sort_by(f32::total_cmp);
@@ -213,13 +242,8 @@ fn bytes<R: PartialEq + Debug>(name: &str, n: u64, rattle: impl Fn(u8) -> R + Sy
     compare(name, n, |i| i as u8, rattle, rust)
 }
 
-pub(crate) fn main() -> ! {
-    let arg = |i, or| std::env::args().nth(i).map_or(or, |s| s.parse().expect("a number"));
-    let (seed, random) = (arg(1, 1), arg(2, 60_000_000));
-    let edges = edges();
-    let pairs = Pairs { seed, crossed: (edges.len() * edges.len()) as u64, edges, random };
-    println!("seed {seed}, pairs: {} of edges and {random} random", pairs.crossed);
-
+/// The functions over floats, bytes, pairs of ends and index lists.
+fn compare_numbers(pairs: &Pairs, seed: u64, lists: u64) -> bool {
     let mut same = true;
     same &= all_floats("abs", |x| bits(inner_abs(x)), |x| bits(x.abs()));
     same &= all_floats("trunc", |x| bits(inner_trunc(x)), |x| bits(x.trunc()));
@@ -279,7 +303,6 @@ pub(crate) fn main() -> ! {
         |[c0, c1]| rust_ends(EndPoints::new_inter6_unorm(c0, c1)),
     );
 
-    let lists = random / 10;
     let words = |i: u64| [2 * i, 2 * i + 1].map(|k| word(seed, k));
     let two = |w: u64| [w as u8, (w >> 8) as u8];
     same &= compare(
@@ -313,7 +336,11 @@ pub(crate) fn main() -> ! {
             (list.data, from_fn(|k| list.get(k)))
         },
     );
+    same
+}
 
+/// Where Rust leaves open what a function answers, or rustc may depart from Rust's documentation.
+fn open_answers() {
     println!("Not differences: the sign that Rust leaves open, and where rustc may depart from Rust's documentation.");
     let zeros = |i: u64| [(i << 31) as u32, ((i ^ 1) << 31) as u32];
     // every signalling NaN of either sign, with 0.5, in both orders
@@ -334,5 +361,31 @@ pub(crate) fn main() -> ! {
     compare("max of +0 and -0", 2, zeros, rattle_max, rust_max);
     compare("min of signalling NaN", 4 * 0x3f_ffff, signalling, rattle_min, rust_min);
     compare("max of signalling NaN", 4 * 0x3f_ffff, signalling, rattle_max, rust_max);
+}
+
+pub(crate) fn main() -> ! {
+    let mut args: Vec<String> = std::env::args().skip(1).collect();
+    if args.first().is_some_and(|s| s == "time") {
+        time::main();
+        std::process::exit(0)
+    }
+    let blocks_only = args.first().is_some_and(|s| s == "blocks");
+    if blocks_only {
+        args.remove(0);
+    }
+    let arg = |i: usize, or| args.get(i).map_or(or, |s| s.parse().expect("a number"));
+    let (seed, random) = (arg(0, 1), arg(1, 60_000_000));
+    let edges = edges();
+    let pairs = Pairs { seed, crossed: (edges.len() * edges.len()) as u64, edges, random };
+
+    let mut same = true;
+    if !blocks_only {
+        println!("seed {seed}, pairs: {} of edges and {random} random", pairs.crossed);
+        same &= compare_numbers(&pairs, seed, random / 10);
+    }
+    same &= blocks::compare_all(seed, random / 10, &pairs.edges);
+    if !blocks_only {
+        open_answers();
+    }
     std::process::exit(!same as i32)
 }

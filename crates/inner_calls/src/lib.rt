@@ -8,8 +8,17 @@ ghost use lib.ListN.{getD};
 ghost use Rattle.floats.specs.Helpers.{absOf, minOf, maxOf, laneMin, laneMax, clampOf, entryClamp, truncOf, byteOf, byteUpTo7};
 ghost use Rattle.values.specs.Values.{valueOf, normOf, signedOf};
 ghost use Rattle.index_list.specs.Indexes.{filledTo};
+ghost use Rattle.block.specs.Block.{entered, mean};
+ghost use Rattle.palette.specs.declared.Kind.the-variants.{Six, Four};
+ghost use Rattle.palette.specs.PaletteError.{paletteError};
 use end_points::EndPoints;
+use floats::Pair;
 use index_list::IndexList;
+use palette::Closest;
+use palette::Indexed;
+use palette::Kind;
+use palette::inter4::Inter4Palette;
+use palette::inter6::Inter6Palette;
 
 #[no_mangle]
 pub extern "C" fn inner_abs(x: f32) -> f32
@@ -209,4 +218,120 @@ pub extern "C" fn inner_set(indexes: &[u8; 16]) -> u64
         list = list.set(i, indexes[i] % 8);
     }
     list.data
+}
+
+// ---- block
+
+fn give_pair(p: Pair, out: &mut [f32; 2]) {
+    *out = [p.0, p.1];
+}
+
+#[no_mangle]
+pub extern "C" fn inner_from_raw(samples: &[f32; 16], out: &mut [f32; 16])
+    ensures { λ r. ⌜ now (out .exit) ≡ entered (now (samples .entry)) ⌝ }
+{
+    *out = block::from_raw(samples);
+}
+
+#[no_mangle]
+pub extern "C" fn inner_min_max(b: &[f32; 16], out: &mut [f32; 2]) {
+    give_pair(block::min_max(b), out)
+}
+
+#[no_mangle]
+pub extern "C" fn inner_min_max_with_threshold(b: &[f32; 16], threshold: f32, out: &mut [f32; 2]) {
+    give_pair(block::min_max_with_threshold(b, threshold), out)
+}
+
+#[no_mangle]
+pub extern "C" fn inner_mean(b: &[f32; 16]) -> f32
+    ensures { λ r. ⌜ r ≡ mean (now (b .entry)) ⌝ }
+{
+    block::mean(b)
+}
+
+// ---- palette
+
+#[no_mangle]
+pub extern "C" fn inner_palette_error6(b: &[f32; 16], c0: f32, c1: f32) -> f32
+    ensures { λ r. ⌜ r ≡ paletteError Six (now (b .entry)) c0 c1 ⌝ }
+{
+    palette::palette_error(Kind::Six, b, c0, c1)
+}
+
+#[no_mangle]
+pub extern "C" fn inner_palette_error4(b: &[f32; 16], c0: f32, c1: f32) -> f32
+    ensures { λ r. ⌜ r ≡ paletteError Four (now (b .entry)) c0 c1 ⌝ }
+{
+    palette::palette_error(Kind::Four, b, c0, c1)
+}
+
+// The index; its value and the error in `out`.
+fn give_closest(c: Closest, out: &mut [f32; 2]) -> u8 {
+    *out = [c.value, c.error];
+    c.index
+}
+
+#[no_mangle]
+pub extern "C" fn inner_closest6(c0: f32, c1: f32, pixel: f32, out: &mut [f32; 2]) -> u8 {
+    let map = Inter6Palette::INDEX_MAP;
+    give_closest(Inter6Palette::new(c0, c1).closest(&map, pixel), out)
+}
+
+#[no_mangle]
+pub extern "C" fn inner_closest4(c0: f32, c1: f32, pixel: f32, out: &mut [f32; 2]) -> u8 {
+    give_closest(Inter4Palette::new(c0, c1).closest(pixel), out)
+}
+
+#[no_mangle]
+pub extern "C" fn inner_weights(c0: f32, c1: f32, b: &[f32; 16], out: &mut [f32; 16]) {
+    *out = Inter6Palette::new(c0, c1).block_closest_weights(b);
+}
+
+// The error; the indexes in `data`.
+fn give_indexed(x: Indexed, data: &mut u64) -> f32 {
+    *data = x.indexes.data;
+    x.error
+}
+
+#[no_mangle]
+pub extern "C" fn inner_block_closest6(c0: f32, c1: f32, b: &[f32; 16], data: &mut u64) -> f32 {
+    give_indexed(Inter6Palette::new(c0, c1).block_closest(b), data)
+}
+
+#[no_mangle]
+pub extern "C" fn inner_block_closest4(c0: f32, c1: f32, b: &[f32; 16], data: &mut u64) -> f32 {
+    give_indexed(Inter4Palette::new(c0, c1).block_closest(b), data)
+}
+
+// ---- bcn_util
+
+#[no_mangle]
+pub extern "C" fn inner_least_squares(colors: &[f32; 16], w: &[f32; 16], out: &mut [f32; 2]) {
+    give_pair(bcn_util::least_squares::least_squares(colors, w), out)
+}
+
+#[no_mangle]
+pub extern "C" fn inner_dither6(c0: f32, c1: f32, b: &[f32; 16], data: &mut u64) -> f32 {
+    give_indexed(
+        bcn_util::dither::dither6(Inter6Palette::new(c0, c1), b),
+        data,
+    )
+}
+
+#[no_mangle]
+pub extern "C" fn inner_dither4(c0: f32, c1: f32, b: &[f32; 16], data: &mut u64) -> f32 {
+    give_indexed(
+        bcn_util::dither::dither4(Inter4Palette::new(c0, c1), b),
+        data,
+    )
+}
+
+// Nothing happens where the block has no pixel i.
+#[no_mangle]
+pub extern "C" fn inner_diffuse(m: &mut [f32; 16], i: usize, error: f32) {
+    if i < 16 {
+        let w = bcn_util::dither::WEIGHTS;
+        bcn_util::dither::diffuse(m, &w, i, error);
+    }
 }
