@@ -1,8 +1,9 @@
 -- What the program answers. Document 01, "The program": refusal 7 before refusal 8, else the block; one line per record.
+use mathlib.Core.Path.{_≡_}
 use mathlib.Core.List.{List, [], _++_}
 use mathlib.Core.Bool.{cond}
-use Prim.Native.Nat.{ℕ, zero, suc, _*_}
-use lib.ListN.{take, drop}
+use Prim.Native.Nat.{ℕ, zero, suc, _*_, _≤_}
+use lib.ListN.{length, take, drop}
 use Rattle.encode.specs.Encoder.{compressed}
 use Rattle.lines.specs.declared.Answer.{Answer}
 use Rattle.lines.specs.declared.Answer.the-variants.{Block, SampleIsNan, WordMalformed}
@@ -31,3 +32,9 @@ recordAt input i = take 68 (drop (i * 68) input)
 unfoldable pub linesTo : List ℕ → ℕ → List ℕ
 linesTo input zero = []
 linesTo input (suc n) = linesTo input n ++ lineOf (answerOf (recordAt input n))
+
+-- A text of n bytes stands at the start, and the bytes after it are as before.
+pub record Written (text before after : List ℕ) (n : ℕ) : Type 0 where
+  pub within : n ≤ length after
+  pub start : take n after ≡ text
+  pub rest : drop n after ≡ drop n before

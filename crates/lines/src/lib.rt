@@ -1,9 +1,9 @@
 // Document 01, "The program": a line for each record of 68 bytes.
 ghost use mathlib.Core.Path.{_≡_};
 ghost use Prim.Native.Nat.{_+_, _*_, _/_, _≤_};
-ghost use lib.ListN.{length, take};
+ghost use lib.ListN.{length};
 ghost use lib.Seq.{paste};
-ghost use Rattle.lines.specs.Answers.{answerOf, lineOf, linesTo};
+ghost use Rattle.lines.specs.Answers.{answerOf, lineOf, linesTo, Written};
 ghost use Rattle.lines.specs.Output.{Holds};
 
 pub mod input;
@@ -59,11 +59,11 @@ fn copy(out: &mut [u8], at: usize, source: &[u8], n: usize)
     }
 }
 
-// The lines of all whole records of `input`, at the start of `out`: how many bytes they take. A caller lends room for the longest line of
-// each record.
+// The lines of all whole records of `input`, at the start of `out`: how many bytes they take. Later bytes stay. A caller lends room for the
+// longest line of each record.
 pub fn lines(input: &[u8], out: &mut [u8]) -> usize
     requires { ⌜ length (now input) / 68 * 17 ≤ length (now out) ⌝ }
-    ensures { λ r. ⌜ (r ≤ length (now (out .exit))) × (take r (now (out .exit)) ≡ linesTo (now (input .entry)) (length (now (input .entry)) / 68)) ⌝ }
+    ensures { λ r. ⌜ Written (linesTo (now (input .entry)) (length (now (input .entry)) / 68)) (now (out .entry)) (now (out .exit)) r ⌝ }
 {
     let mut at = 0;
     for i in 0..input.len() / 68 {

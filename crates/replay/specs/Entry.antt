@@ -1,9 +1,9 @@
 -- An entry of the list: a record of 68 bytes, and the eight bytes that the Rust text answered.
 use mathlib.Core.List.{List}
-use mathlib.Core.Bool.{Bool, true, not}
-use Prim.Native.Nat.{ℕ, _+_, _*_, _^_}
+use mathlib.Core.Bool.{Bool, true, not, cond}
+use Prim.Native.Nat.{ℕ, zero, suc, _+_, _*_, _^_}
 use lib.Dec.{eqb}
-use lib.ListN.{take}
+use lib.ListN.{take, drop}
 use Rattle.lines.specs.declared.Answer.{Answer}
 use Rattle.lines.specs.declared.Answer.the-variants.{Block, SampleIsNan, WordMalformed}
 use Rattle.lines.specs.Input.{fourBytes}
@@ -20,3 +20,12 @@ unlike WordMalformed rust = true
 
 unfoldable pub differsOf : List ℕ → Bool
 differsOf entry = unlike (answerOf (take 68 entry)) (rustOf entry)
+
+-- entry i of the list
+abbrev pub entryAt : List ℕ → ℕ → List ℕ
+entryAt input i = take 76 (drop (i * 76) input)
+
+-- how many of the first n entries differ
+unfoldable pub differingTo : List ℕ → ℕ → ℕ
+differingTo input zero = 0
+differingTo input (suc n) = differingTo input n + cond (differsOf (entryAt input n)) 1 0

@@ -3,7 +3,7 @@
 ghost use mathlib.Core.Path.{_≡_};
 ghost use Prim.Native.Nat.{_+_, _*_, _/_, _≤_, _<_};
 ghost use lib.ListN.{length};
-ghost use Rattle.replay.specs.Entry.{differsOf};
+ghost use Rattle.replay.specs.Entry.{differsOf, differingTo};
 use libc::STDIN_FILENO;
 use libc::STDOUT_FILENO;
 use lines::Answer;
@@ -46,7 +46,7 @@ fn report(record: u64) {
 
 fn entries(input: &[u8], records: u64, differ: u64) -> Tally
     requires { ⌜ (records + length (now input) < 18446744073709551616) × (differ ≤ records) ⌝ }
-    ensures { λ r. ⌜ (r .records ≡ records + length (now (input .entry)) / 76) × (r .differ ≤ r .records) ⌝ }
+    ensures { λ r. ⌜ (r .records ≡ records + length (now (input .entry)) / 76) × (r .differ ≡ differ + differingTo (now (input .entry)) (length (now (input .entry)) / 76)) × (r .differ ≤ r .records) ⌝ }
 {
     let mut d = differ;
     for i in 0..input.len() / 76 {

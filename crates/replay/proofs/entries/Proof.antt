@@ -1,19 +1,23 @@
--- `replay::entries` meets its contract: each turn adds at most one difference. Assumes nothing.
+-- `replay::entries` meets its contract: after i turns d has counted which of the first i entries differ. Assumes nothing.
 use mathlib.Core.Logic.{⊎-elim}
-use Prim.Native.Nat.{_+_, _/_, _-_, _≤_}
+use mathlib.Core.Path.{_≡_}
+use Prim.Native.Nat.{_+_, _*_, _/_, _-_, _≤_}
+use native.Mathlib.Numerals.{add-one}
 use native.Mathlib.Omega.{arith}
 use lib.ListN.{length, length-take, length-drop}
 use borrow.Author.Needs.{needs}
+use Rattle.replay.specs.Entry.{differsOf, entryAt, differingTo}
 use Rattle.replay.proofs.entries.Statement.{statement}
 use Rattle.replay.proofs.entries.Tie as tie
 
 abbrev Inv-loop : tie.InvT-loop
-Inv-loop input records differ d₀ i₀ i-end d i = (i ≤ length input / 76) × (d ≤ records + i)
+Inv-loop input records differ d₀ i₀ i-end d i = (i ≤ length input / 76) × (d ≤ records + i) × (d ≡ differ + differingTo input i)
 
 abbrev μ-loop : tie.MeasureT-loop
 μ-loop input records differ d₀ i₀ i-end d i = length input / 76 - i
 
 loop-holds : tie.Need-loop-holds Inv-loop μ-loop
+unfolding differingTo
 loop-holds c = search needs
 
 mul-differs : tie.Need-mul-differs Inv-loop μ-loop
@@ -53,13 +57,25 @@ loop-less : tie.Need-loop-less Inv-loop μ-loop
 loop-less c = search needs
 
 loop-again : tie.Need-loop-again Inv-loop μ-loop
-loop-again c = ⊎-elim (λ w. omega arith) (λ w. omega arith) (c .if1 .came)
+unfolding differingTo
+loop-again c =
+    let l = c .before .before .before .before .loop in
+    let input = c .before .before .before .before .before .before .args .input .now in
+    let whole : l .i * 76 + 76 - l .i * 76 ≡ 76 = omega arith in
+    let found : c .before .differs .result ≡ differsOf (entryAt input (l .i)) = rw whole at (c .before .differs .ensures) in
+    ⊎-elim
+    (λ w. (omega arith, omega arith, rw (add-one, ← found, w .0 .taken) (omega arith)))
+    (λ w. (omega arith, omega arith, rw (add-one, ← found, w .0 .left) (omega arith)))
+    (c .if1 .came)
 
 add-t22 : tie.Need-add-t22 Inv-loop μ-loop
 add-t22 c = search needs
 
 returns : tie.Need-returns Inv-loop μ-loop
-returns c = search needs
+returns c =
+    let l = c .before .loop in
+    let all : l .i ≡ length (c .before .before .before .args .input .now) / 76 = omega arith in
+    (search needs, rw all at (l .inv .2), search needs)
 
 pub entries-spec : {M : Type 1} → statement M
 entries-spec =
