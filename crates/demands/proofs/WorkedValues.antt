@@ -7,6 +7,7 @@ use Rattle.end_points.specs.EndPoints.{ofBytes, swapped, inter6}
 use Rattle.block.specs.Block.{bc4MinValue}
 use Rattle.block.proofs.Laws.{threshold-edges}
 use Rattle.demands.specs.WorkedValues.{WorkedValues}
+use Rattle.demands.proofs.Flat.{flat-0, flat-1, flat-signed-0}
 
 pub worked-values : WorkedValues
 unfolding inter6 swapped ofBytes levelsOf levelsBetween apart filledTo ofBits mul add sub lt ne toUnsigned
@@ -19,5 +20,8 @@ worked-values = record {
   value-6 = (refl, refl);
   value-7 = refl;
   value-8 = refl;
+  value-9 = λ o e a. rw (flat-0 o e a);
+  value-10 = λ o e a. rw (flat-1 o e a);
+  value-11 = λ o e. rw (flat-signed-0 o e);
   value-12 = λ b each. threshold-edges bc4MinValue b (unfold le in refl) (unfold le in refl) each;
 }

@@ -10,10 +10,12 @@ use Rattle.floats.specs.Arithmetic.{f0, f1}
 use Rattle.values.specs.Values.{fromNorm}
 use Rattle.index_list.specs.Indexes.{setAt, filledTo}
 use Rattle.index_list.specs.Layout.{packed, bytesOf}
-use Rattle.block.specs.Samples.{pixelAt}
+use Rattle.block.specs.Samples.{pixelAt, perPixel}
 use Rattle.block.specs.Block.{bc4MinValue, minMaxWithThreshold}
 use Rattle.end_points.specs.declared.EndPoints.{EndPoints}
 use Rattle.end_points.specs.EndPoints.{inter6}
+use Rattle.refine.specs.declared.options.Options.{Options}
+use Rattle.encode.specs.Encoder.{searches, compressed}
 
 -- the endpoint bytes are c0 and c1
 abbrev pub Bytes : EndPoints → ℕ → ℕ → Type 0
@@ -40,5 +42,11 @@ pub record WorkedValues : Type 0 where
   pub value-7 : indexBytes (setAt 0 2 5) ≡ 0x40 ∷ 0x01 ∷ 0 ∷ 0 ∷ 0 ∷ 0 ∷ []
   -- 8: all indexes 7
   pub value-8 : indexBytes (filledTo (λ i. 7) 16) ≡ 0xff ∷ 0xff ∷ 0xff ∷ 0xff ∷ 0xff ∷ 0xff ∷ []
+  -- 9: all 0, unsigned, no search
+  pub value-9 : (o : Options) → o .snorm ≡ false → searches o ≡ false → bytesOf (compressed (perPixel (λ i. f0)) o) ≡ 0 ∷ 0 ∷ 0 ∷ 0 ∷ 0 ∷ 0 ∷ 0 ∷ 0 ∷ []
+  -- 10: all 1, unsigned, no search
+  pub value-10 : (o : Options) → o .snorm ≡ false → searches o ≡ false → bytesOf (compressed (perPixel (λ i. f1)) o) ≡ 0xff ∷ 0 ∷ 0 ∷ 0 ∷ 0 ∷ 0 ∷ 0 ∷ 0 ∷ []
+  -- 11: all 0, signed
+  pub value-11 : (o : Options) → o .snorm ≡ true → bytesOf (compressed (perPixel (λ i. f0)) o) ≡ 0x81 ∷ 0x81 ∷ 0 ∷ 0 ∷ 0 ∷ 0 ∷ 0 ∷ 0 ∷ []
   -- 12: only 0.0 and 1.0 present, both
   pub value-12 : (b : List Float) → ((i : ℕ) → i < 16 → (pixelAt b i ≡ f0) ⊎ (pixelAt b i ≡ f1)) → minMaxWithThreshold bc4MinValue b ≡ record { 0 = f1; 1 = f0 }
