@@ -26,6 +26,10 @@ hexLine n =
 unfoldable pub refusedLine : ℕ → List ℕ
 refusedLine number = 114 ∷ 101 ∷ 102 ∷ 117 ∷ 115 ∷ 101 ∷ 100 ∷ 32 ∷ (48 + number) ∷ lineFeed ∷ []
 
+-- the bytes of `short`
+abbrev pub shortLine : List ℕ
+shortLine = 115 ∷ 104 ∷ 111 ∷ 114 ∷ 116 ∷ lineFeed ∷ []
+
 -- The bytes of a line and their number are a text.
 pub record Holds (l : Line) (text : List ℕ) : Type 0 where
   pub size : length (l .bytes) ≡ 17

@@ -3,7 +3,7 @@ ghost use mathlib.Core.Path.{_≡_};
 ghost use Prim.Native.Nat.{_+_, _*_, _/_, _≤_};
 ghost use lib.ListN.{length};
 ghost use lib.Seq.{paste};
-ghost use Rattle.lines.specs.Answers.{answerOf, lineOf, linesTo, Written};
+ghost use Rattle.lines.specs.Answers.{answerOf, lineOf, linesTo, textOf, Written};
 ghost use Rattle.lines.specs.Output.{Holds};
 
 pub mod input;
@@ -59,9 +59,8 @@ fn copy(out: &mut [u8], at: usize, source: &[u8], n: usize)
     }
 }
 
-// The lines of all whole records of `input`, at the start of `out`: how many bytes they take. Later bytes stay. A caller lends room for the
-// longest line of each record.
-pub fn lines(input: &[u8], out: &mut [u8]) -> usize
+// The lines of all whole records of `input`, at the start of `out`: how many bytes they take. Later bytes stay.
+fn lines(input: &[u8], out: &mut [u8]) -> usize
     requires { ⌜ length (now input) / 68 * 17 ≤ length (now out) ⌝ }
     ensures { λ r. ⌜ Written (linesTo (now (input .entry)) (length (now (input .entry)) / 68)) (now (out .entry)) (now (out .exit)) r ⌝ }
 {
@@ -74,4 +73,18 @@ pub fn lines(input: &[u8], out: &mut [u8]) -> usize
         at += n;
     }
     at
+}
+
+// All that the program writes for an input, at the start of `out`: how many bytes that takes. Later bytes stay. A caller lends room for the
+// longest line of each record and for `short`.
+pub fn text(input: &[u8], out: &mut [u8]) -> usize
+    requires { ⌜ length (now input) / 68 * 17 + 6 ≤ length (now out) ⌝ }
+    ensures { λ r. ⌜ Written (textOf (now (input .entry))) (now (out .entry)) (now (out .exit)) r ⌝ }
+{
+    let at = lines(input, out);
+    if input.len() % 68 == 0 {
+        return at;
+    }
+    copy(out, at, b"short\n", 6);
+    at + 6
 }

@@ -1,12 +1,13 @@
 -- An entry of the list: a record of 68 bytes, and the eight bytes that the Rust text answered.
 use mathlib.Core.List.{List}
 use mathlib.Core.Bool.{Bool, true, not, cond}
-use Prim.Native.Nat.{ℕ, zero, suc, _+_, _*_, _^_}
+use Prim.Native.Nat.{ℕ, zero, suc, _+_, _*_, _/_, _^_}
 use lib.Dec.{eqb}
-use lib.ListN.{take, drop}
+use lib.ListN.{length, take, drop}
 use Rattle.lines.specs.declared.Answer.{Answer}
 use Rattle.lines.specs.declared.Answer.the-variants.{Block, SampleIsNan, WordMalformed}
 use Rattle.lines.specs.Input.{fourBytes}
+use Rattle.replay.specs.declared.Tally.{Tally}
 use Rattle.lines.specs.Answers.{answerOf}
 
 -- the eight bytes of the Rust, byte 0 lowest
@@ -29,3 +30,7 @@ entryAt input i = take 76 (drop (i * 76) input)
 unfoldable pub differingTo : List ℕ → ℕ → ℕ
 differingTo input zero = 0
 differingTo input (suc n) = differingTo input n + cond (differsOf (entryAt input n)) 1 0
+
+-- a tally of records and differing ones, after the whole entries of one more buffer
+unfoldable pub tallied : ℕ → ℕ → List ℕ → Tally
+tallied records differ input = record { records = records + length input / 76; differ = differ + differingTo input (length input / 76) }

@@ -1,17 +1,17 @@
 // Compares the encoder with what the Rust text answered. Standard input is a list of entries of 76 bytes: a record of 68 bytes, as the
 // program `records` reads it, and the eight bytes that the Rust gave for it.
 ghost use mathlib.Core.Path.{_≡_};
-ghost use Prim.Native.Nat.{_+_, _*_, _/_, _≤_, _<_};
+ghost use Prim.Native.Nat.{_+_, _*_, _≤_, _<_};
 ghost use lib.ListN.{length};
-ghost use Rattle.replay.specs.Entry.{differsOf, differingTo};
+ghost use Rattle.replay.specs.Entry.{differsOf, tallied};
 use libc::STDIN_FILENO;
 use libc::STDOUT_FILENO;
 use lines::Answer;
 
+// How many entries, and how many of them differ.
 struct Tally {
     records: u64,
     differ: u64,
-    more: bool,
 }
 
 // The eight bytes that the Rust gave as one number, byte 0 lowest, from their two halves.
@@ -44,9 +44,10 @@ fn report(record: u64) {
     io::write_all(STDOUT_FILENO, b" differs\n");
 }
 
+// Counts on over the entries of a buffer, and names those that differ.
 fn entries(input: &[u8], records: u64, differ: u64) -> Tally
     requires { ⌜ (records + length (now input) < 18446744073709551616) × (differ ≤ records) ⌝ }
-    ensures { λ r. ⌜ (r .records ≡ records + length (now (input .entry)) / 76) × (r .differ ≡ differ + differingTo (now (input .entry)) (length (now (input .entry)) / 76)) × (r .differ ≤ r .records) ⌝ }
+    ensures { λ r. ⌜ r ≡ tallied records differ (now (input .entry)) ⌝ }
 {
     let mut d = differ;
     for i in 0..input.len() / 76 {
@@ -58,36 +59,25 @@ fn entries(input: &[u8], records: u64, differ: u64) -> Tally
     Tally {
         records: records + ((input.len() / 76) as u64),
         differ: d,
-        more: input.len() == 65360,
     }
 }
 
-// One buffer of 860 entries.
-fn turn(records: u64, differ: u64) -> Tally
-    requires { ⌜ (records + 65360 < 18446744073709551616) × (differ ≤ records) ⌝ }
-    ensures { λ r. ⌜ (r .records ≤ records + 860) × (r .differ ≤ r .records) ⌝ }
-{
-    let mut input = [0u8; 65360];
-    let n = io::read_full(STDIN_FILENO, &mut input);
-    let tally = entries(&input[..n], records, differ);
-    if n % 76 != 0 {
-        io::write_all(STDOUT_FILENO, b"short\n");
-    }
-    tally
-}
-
-// The count of turns shows that the program ends and that the sums fit: no input has so many.
+// A buffer is 860 entries. The count of turns shows that the program ends and that the sums fit: no input has so many.
 fn main() {
+    let mut input = [0u8; 65360];
     let mut turns: u64 = 1_000_000_000_000;
     let mut records: u64 = 0;
     let mut differ: u64 = 0;
-    let mut more = true;
-    while turns > 0 && more {
-        let t = turn(records, differ);
+    let mut n = 65360;
+    while turns > 0 && n == 65360 {
+        n = io::read_full(STDIN_FILENO, &mut input);
+        let t = entries(&input[..n], records, differ);
         records = t.records;
         differ = t.differ;
-        more = t.more;
         turns -= 1;
+    }
+    if n % 76 != 0 {
+        io::write_all(STDOUT_FILENO, b"short\n");
     }
     io::print_decimal(STDOUT_FILENO, records);
     io::write_all(STDOUT_FILENO, b" records, ");

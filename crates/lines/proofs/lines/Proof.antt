@@ -3,22 +3,23 @@ use mathlib.Core.Path.{_≡_, refl, ap, _∙_}
 use Prim.Native.Nat.{_/_, _+_, _*_, _-_, _≤_}
 use native.Mathlib.Numerals.{add-one}
 use native.Mathlib.Omega.{arith}
-use lib.ListN.{length, take, drop, length-take, length-drop}
-use lib.Seq.{take-paste, drop-paste, length-paste, drop-drop}
+use lib.ListN.{length, take, length-take, length-drop}
+use lib.Seq.{length-paste}
 use borrow.Author.Needs.{needs}
-use Rattle.lines.specs.Answers.{linesTo}
+use Rattle.lines.specs.Answers.{answerOf, lineOf, recordAt, linesTo, Written}
+use Rattle.lines.proofs.Laws.{written-more}
 use Rattle.lines.proofs.lines.Statement.{statement}
 use Rattle.lines.proofs.lines.Tie as tie
 
 abbrev Inv-loop : tie.InvT-loop
-Inv-loop input out₀ at₀ i₀ i-end out at i = (i ≤ length input / 68) × (at ≤ i * 17) × (length out ≡ length out₀) × (take at out ≡ linesTo input i) × (drop at out ≡ drop at out₀)
+Inv-loop input out₀ at₀ i₀ i-end out at i = (i ≤ length input / 68) × (at ≤ i * 17) × (length out ≡ length out₀) × Written (linesTo input i) out₀ out at
 
 abbrev μ-loop : tie.MeasureT-loop
 μ-loop input out₀ at₀ i₀ i-end out at i = length input / 68 - i
 
 loop-holds : tie.Need-loop-holds Inv-loop μ-loop
 unfolding linesTo
-loop-holds c = (search needs, search needs, refl, refl, refl)
+loop-holds c = (search needs, search needs, refl, record { within = search needs; start = refl; rest = refl })
 
 mul-answer-to : tie.Need-mul-answer-to Inv-loop μ-loop
 mul-answer-to c = search needs
@@ -65,18 +66,18 @@ loop-again c =
     let copied = c .before .before .copy in
     let made = c .before .before .before .before .before .before in
     let l = made .before .before .before .before .loop in
+    let args = made .before .before .before .before .before .before .before .args in
     let line = made .line in
-    let before = made .before .before .before .before .before .before .before .args .out .now in
-    let length-fits : line .result .length ≤ length (line .result .bytes) = omega arith in
-    let fits : l .at + line .result .length ≤ length (l .out) = omega arith in
-    let whole : l .i * 68 + 68 - l .i * 68 ≡ 68 = omega arith in (
+    let enough : line .result .length ≤ length (line .result .bytes) = omega arith in
+    let room : l .at + line .result .length ≤ length (l .out) = omega arith in
+    let whole : l .i * 68 + 68 - l .i * 68 ≡ 68 = omega arith in
+    let same : take (line .result .length) (line .result .bytes) ≡ lineOf (answerOf (recordAt (args .input .now) (l .i)))
+    = rw (line .ensures .same, made .before .answer-to .ensures, whole) in (
       omega arith,
       omega arith,
-      ap length (copied .ensures) ∙ length-paste (l .out) (l .at) (line .result .bytes) (line .result .length) fits length-fits ∙ l .inv .2,
-      rw (copied .ensures, take-paste (l .out) (l .at) (line .result .bytes) (line .result .length) (omega arith) length-fits, l .inv .3, line .ensures .same, made .before .answer-to .ensures, whole, add-one),
-      ap (drop (l .at + line .result .length)) (copied .ensures)
-          ∙ drop-paste (l .out) (l .at) (line .result .bytes) (line .result .length) (omega arith) length-fits
-          ∙ rw (← drop-drop (line .result .length) (l .at) (l .out), ← drop-drop (line .result .length) (l .at) before, l .inv .4),
+      ap length (copied .ensures) ∙ length-paste (l .out) (l .at) (line .result .bytes) (line .result .length) room enough ∙ l .inv .2,
+      rw (copied .ensures, add-one, ← same)
+          (written-more (line .result .bytes) (line .result .length) (l .inv .3) room enough),
     )
 
 same-length : tie.Need-same-length Inv-loop μ-loop
@@ -86,7 +87,7 @@ returns : tie.Need-returns Inv-loop μ-loop
 returns c =
     let l = c .before .loop in
     let all : l .i ≡ length (c .before .before .before .before .args .input .now) / 68 = omega arith in
-    record { within = omega arith; start = rw all at (l .inv .3); rest = l .inv .4 }
+    rw all at (l .inv .3)
 
 pub lines-spec : {M : Type 1} → statement M
 lines-spec =

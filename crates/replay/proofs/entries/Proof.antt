@@ -1,12 +1,12 @@
 -- `replay::entries` meets its contract: after i turns d has counted which of the first i entries differ. Assumes nothing.
 use mathlib.Core.Logic.{⊎-elim}
-use mathlib.Core.Path.{_≡_}
-use Prim.Native.Nat.{_+_, _*_, _/_, _-_, _≤_}
+use mathlib.Core.Path.{_≡_, ap}
+use Prim.Native.Nat.{ℕ, _+_, _*_, _/_, _-_, _≤_}
 use native.Mathlib.Numerals.{add-one}
 use native.Mathlib.Omega.{arith}
 use lib.ListN.{length, length-take, length-drop}
 use borrow.Author.Needs.{needs}
-use Rattle.replay.specs.Entry.{differsOf, entryAt, differingTo}
+use Rattle.replay.specs.Entry.{differsOf, entryAt, differingTo, tallied}
 use Rattle.replay.proofs.entries.Statement.{statement}
 use Rattle.replay.proofs.entries.Tie as tie
 
@@ -72,10 +72,11 @@ add-t22 : tie.Need-add-t22 Inv-loop μ-loop
 add-t22 c = search needs
 
 returns : tie.Need-returns Inv-loop μ-loop
+unfolding tallied
 returns c =
     let l = c .before .loop in
     let all : l .i ≡ length (c .before .before .before .args .input .now) / 76 = omega arith in
-    (search needs, rw all at (l .inv .2), search needs)
+    ap (λ (d : ℕ). record { records = c .before .before .before .args .records + length (c .before .before .before .args .input .now) / 76; differ = d }) (rw all at (l .inv .2))
 
 pub entries-spec : {M : Type 1} → statement M
 entries-spec =
