@@ -1,4 +1,5 @@
--- The sixteen samples in order, as places: said by counting, so that no way of sorting is part of the promise.
+-- The sixteen samples in order, as places: said by counting, so that no way of sorting is part of the promise. That this is the sorted
+-- sixteen is shown in proofs/SortedSixteen.antt: `placed-ordered`, `placed-count`, `placed-is-sample`.
 use mathlib.Core.List.{List}
 use mathlib.Core.Bool.{cond}
 use Prim.Native.Nat.{ℕ, zero, suc, _+_, _-_}
@@ -25,6 +26,6 @@ placedTo b k (suc i) = cond (ltb k (notAbove b (pixelAt b i))) (minOf (placedTo 
 abbrev pub placed : List Float → ℕ → Float
 placed b k = placedTo b k 16
 
--- the last place whose sample is not above x, or 0
+-- the last place whose sample is not above x, or 0 (`placeOf-last`, `placeOf-equal`)
 abbrev pub placeOf : List Float → Float → ℕ
 placeOf b x = notAbove b x - 1
