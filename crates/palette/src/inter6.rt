@@ -76,8 +76,8 @@ impl Inter6Palette {
         floats::byte_up_to_7(pixel * self.factor1 + self.add1)
     }
 
-    // k is a blend7.
-    fn blended(self, k: u32) -> f32
+    // k counts sevenths: a blend7, or 8 less the index that a decoder reads.
+    pub fn blended(self, k: u32) -> f32
         requires { ⌜ k ≤ 7 ⌝ }
         ensures { λ r. ⌜ r ≡ blendedOf self k ⌝ }
     {

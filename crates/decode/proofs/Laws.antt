@@ -1,0 +1,20 @@
+-- The sum of a block error by one pixel more, and a decoded sample by its pixel. Assumes nothing.
+use mathlib.Core.Path.{_≡_, refl}
+use mathlib.Core.List.{List}
+use mathlib.Core.Bool.{Bool}
+use Prim.Native.Nat.{ℕ, _+_, _<_}
+use native.Mathlib.Numerals.{add-one}
+use lib.Ieee.{Float, nan}
+use Rattle.floats.specs.Arithmetic.{_⊕_}
+use Rattle.block.specs.Samples.{pixelAt}
+use Rattle.block.proofs.Fill.{getD-tabulate}
+use Rattle.decode.specs.Meaning.{sampleAt, decoded}
+use Rattle.decode.specs.BlockError.{sampleError, errorTo}
+
+pub errorTo-more : (s v : List Float) (k : ℕ) → errorTo s v (k + 1) ≡ errorTo s v k ⊕ sampleError (pixelAt s k) (pixelAt v k)
+unfolding errorTo
+errorTo-more s v k = rw add-one
+
+pub decoded-at : (snorm : Bool) (n i : ℕ) → i < 16 → pixelAt (decoded snorm n) i ≡ sampleAt snorm n i
+unfolding decoded
+decoded-at snorm n i h = getD-tabulate (sampleAt snorm n) nan 16 i h

@@ -1,0 +1,89 @@
+use mathlib.Core.Path.{_≡_, refl}
+use Prim.Native.Nat.{_≤_, _-_}
+use native.Mathlib.Nat.{div-one}
+use native.Mathlib.Omega.{arith}
+use lib.Ieee.{nan}
+use borrow.Author.Needs.{needs}
+use Rattle.palette.specs.Palettes.{entry}
+use Rattle.block.proofs.Fill.{Filled, fill-start, fill-step, fill-end}
+use Rattle.decode.specs.Meaning.{sampleAt, decoded}
+use Rattle.decode.proofs.samples.Statement.{statement}
+use Rattle.decode.proofs.samples.Tie as tie
+
+abbrev Inv-loop : tie.InvT-loop
+Inv-loop block snorm eight list out₀ i₀ out i = (i ≤ 16) × Filled nan (sampleAt snorm block) 16 out i
+
+abbrev μ-loop : tie.MeasureT-loop
+μ-loop block snorm eight list out₀ i₀ out i = 16 - i
+
+cast-table : tie.Need-cast-table Inv-loop μ-loop
+cast-table c = search needs
+
+cast-table-2 : tie.Need-cast-table-2 Inv-loop μ-loop
+cast-table-2 c = search needs
+
+table-requires : tie.Need-table-requires Inv-loop μ-loop
+table-requires c κs = search needs
+
+loop-holds : tie.Need-loop-holds Inv-loop μ-loop
+loop-holds c = (search needs, fill-start nan _ 16 _ refl)
+
+get-requires : tie.Need-get-requires Inv-loop μ-loop
+get-requires c κs = search needs
+
+cast-at : tie.Need-cast-at Inv-loop μ-loop
+cast-at c = search needs
+
+mul-out : tie.Need-mul-out Inv-loop μ-loop
+mul-out c = search needs
+
+array-read-out : tie.Need-array-read-out Inv-loop μ-loop
+array-read-out c = search needs
+
+mul-out-2 : tie.Need-mul-out-2 Inv-loop μ-loop
+mul-out-2 c = search needs
+
+array-write-out : tie.Need-array-write-out Inv-loop μ-loop
+array-write-out c = search needs
+
+add-i : tie.Need-add-i Inv-loop μ-loop
+add-i c = search needs
+
+loop-less : tie.Need-loop-less Inv-loop μ-loop
+loop-less c = search needs
+
+loop-again : tie.Need-loop-again Inv-loop μ-loop
+loop-again c =
+    let h = c .before .before in
+    let a = h .before .before .args in
+    let v = entry (h .before .table .result) (c .get .result) in
+    let e : v ≡ sampleAt (a .snorm) (a .block) (h .loop .i) = rw (c .get .ensures, h .before .table .ensures, div-one) in
+    (search needs, fill-step nan (sampleAt (a .snorm) (a .block)) 16 (h .loop .out) (h .loop .i) v (h .loop .inv .1) (c .before .loop-test .taken) e)
+
+returns : tie.Need-returns Inv-loop μ-loop
+unfolding decoded
+returns c =
+    let h = c .before in
+    let a = h .before .before .args in
+    fill-end nan (sampleAt (a .snorm) (a .block)) 16 (h .loop .out) (h .loop .i) (h .loop .inv .1) (omega arith)
+
+pub samples-spec : {M : Type 1} → statement M
+samples-spec =
+    tie.close
+    (tie.spec
+    Inv-loop
+    μ-loop
+    cast-table
+    cast-table-2
+    table-requires
+    loop-holds
+    get-requires
+    cast-at
+    mul-out
+    array-read-out
+    mul-out-2
+    array-write-out
+    add-i
+    loop-less
+    loop-again
+    returns)

@@ -1,0 +1,88 @@
+// Document 01, "Eight bytes" and block error. A block is one number, byte 0 lowest.
+ghost use mathlib.Core.Path.{_≡_};
+ghost use Rattle.decode.specs.Meaning.{isSix, sixValues, tableOf, decoded};
+ghost use Rattle.decode.specs.BlockError.{sampleError, errorTo, blockError};
+use index_list::IndexList;
+use palette::inter4::Inter4Palette;
+use palette::inter6::Inter6Palette;
+
+// Whether two endpoint bytes mean six values: c0 > c1, signed for snorm.
+pub fn is_six(c0: u8, c1: u8, snorm: bool) -> bool
+    ensures { λ r. ⌜ r ≡ isSix snorm c0 c1 ⌝ }
+{
+    values::byte_below(c1, c0, snorm)
+}
+
+fn six_values(c0: f32, c1: f32) -> [f32; 8]
+    ensures { λ r. ⌜ r ≡ sixValues c0 c1 ⌝ }
+{
+    let p = Inter6Palette::new(c0, c1);
+    [
+        c0,
+        c1,
+        p.blended(6),
+        p.blended(5),
+        p.blended(4),
+        p.blended(3),
+        p.blended(2),
+        p.blended(1),
+    ]
+}
+
+// The eight decoded values, by index.
+pub fn table(c0: u8, c1: u8, snorm: bool) -> [f32; 8]
+    ensures { λ r. ⌜ r ≡ tableOf snorm c0 c1 ⌝ }
+{
+    let x = values::value(c0, snorm);
+    let y = values::value(c1, snorm);
+    if is_six(c0, c1, snorm) {
+        return six_values(x, y);
+    }
+    let p = Inter4Palette::new(x, y);
+    p.colors
+}
+
+// The eight values are worked out once, and looked up sixteen times.
+pub fn samples(block: u64, snorm: bool) -> [f32; 16]
+    ensures { λ r. ⌜ r ≡ decoded snorm block ⌝ }
+{
+    let eight = table((block % 256) as u8, ((block >> 8) % 256) as u8, snorm);
+    let list = IndexList { data: block >> 16 };
+    let mut out = [0.0f32; 16];
+    for i in 0..16usize {
+        let at = list.get(i) as usize;
+        out[i] = eight[at];
+    }
+    out
+}
+
+// The same into the caller's array.
+pub fn decode_into(block: u64, snorm: bool, out: &mut [f32; 16])
+    ensures { λ _. ⌜ now (out .exit) ≡ decoded snorm block ⌝ }
+{
+    *out = samples(block, snorm);
+}
+
+fn sample_error(sample: f32, value: f32) -> f32
+    ensures { λ r. ⌜ r ≡ sampleError sample value ⌝ }
+{
+    let d = floats::entry_clamp(sample) - value;
+    d * d
+}
+
+fn error_sum(samples: &[f32; 16], values: &[f32; 16]) -> f32
+    ensures { λ r. ⌜ r ≡ errorTo (now (samples .entry)) (now (values .entry)) 16 ⌝ }
+{
+    let mut sum = 0.0f32;
+    for i in 0..16usize {
+        sum = sum + sample_error(samples[i], values[i]);
+    }
+    sum
+}
+
+pub fn block_error(samples: &[f32; 16], block: u64, snorm: bool) -> f32
+    ensures { λ r. ⌜ r ≡ blockError snorm (now (samples .entry)) block ⌝ }
+{
+    let values = crate::samples(block, snorm);
+    error_sum(samples, &values)
+}
