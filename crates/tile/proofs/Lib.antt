@@ -1,0 +1,4 @@
+pub mod Places
+pub mod Stretches
+pub mod Blocks
+pub mod Samples

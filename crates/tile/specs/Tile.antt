@@ -1,0 +1,28 @@
+-- Document 01, "Calls and numbers": the bytes of a tile. Samples are row-major, blocks go row by row from the top left, and each block is
+-- what the block call gives for its own sixteen samples.
+use mathlib.Core.List.{List, [], _++_}
+use Prim.Native.Nat.{ℕ, zero, suc, _+_, _*_, _/_, _%_}
+use lib.Ieee.{Float}
+use Rattle.index_list.specs.Layout.{bytesOf}
+use Rattle.block.specs.Samples.{pixelAt, perPixel}
+use Rattle.refine.specs.declared.options.Options.{Options}
+use Rattle.encode.specs.Encoder.{compressed}
+use Rattle.tile.specs.Place.{along}
+
+-- where pixel i of a block stands among the samples
+abbrev pub sampleAt : ℕ → ℕ → ℕ → ℕ → ℕ
+sampleAt width column row i = (4 * row + i / 4) * width + (4 * column + i % 4)
+
+-- a block's own sixteen samples
+unfoldable pub blockOf : List Float → ℕ → ℕ → ℕ → List Float
+blockOf samples width column row = perPixel (λ i. pixelAt samples (sampleAt width column row i))
+
+-- the bytes of the first n blocks of a row
+unfoldable pub rowBytes : List Float → ℕ → Options → ℕ → ℕ → List ℕ
+rowBytes samples width o row zero = []
+rowBytes samples width o row (suc n) = rowBytes samples width o row n ++ bytesOf (compressed (blockOf samples width n row) o)
+
+-- the bytes of the first n rows of blocks
+unfoldable pub tileBytes : List Float → ℕ → Options → ℕ → List ℕ
+tileBytes samples width o zero = []
+tileBytes samples width o (suc n) = tileBytes samples width o n ++ rowBytes samples width o n (along width)
