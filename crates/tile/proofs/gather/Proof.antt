@@ -1,6 +1,8 @@
+use denote.Ref.{now}
 use mathlib.Core.Path.{refl}
-use Prim.Native.Nat.{ℕ, _≤_, _-_}
+use Prim.Native.Nat.{ℕ, _+_, _*_, _<_, _≤_, _-_}
 use native.Mathlib.Omega.{arith}
+use lib.ListN.{length}
 use lib.Ieee.{nan}
 use borrow.Author.Needs.{needs}
 use Rattle.block.specs.Samples.{pixelAt}
@@ -19,14 +21,30 @@ abbrev μ-loop : tie.MeasureT-loop
 loop-holds : tie.Need-loop-holds Inv-loop μ-loop
 loop-holds c = (search needs, fill-start nan _ 16 _ refl)
 
+-- the sample that turn i reads stands within the samples, and so does every part of its place
+Room : tie.In-loop Inv-loop μ-loop → Type 0
+Room c =
+    let a = c .before .before .args in
+    (4 * a .row + 4 ≤ length (now (a .samples))) × (sampleAt (a .width) (a .column) (a .row) (c .before .loop .i) < length (now (a .samples)))
+
+room : (c : tie.In-loop Inv-loop μ-loop) → Room c
+unfolding Room
+room c =
+    let a = c .before .before .args in
+    let w = sample-within (a .width) (a .column) (a .row) (c .before .loop .i) (search needs) (search needs) in
+    (omega arith, omega arith)
+
 mul-b : tie.Need-mul-b Inv-loop μ-loop
-mul-b c = ?
+unfolding Room
+mul-b c = omega (arith, room c)
 
 add-b : tie.Need-add-b Inv-loop μ-loop
-add-b c = ?
+unfolding Room
+add-b c = omega (arith, room c)
 
 mul-b-2 : tie.Need-mul-b-2 Inv-loop μ-loop
-mul-b-2 c = ?
+unfolding Room
+mul-b-2 c = omega (arith, room c)
 
 mul-b-3 : tie.Need-mul-b-3 Inv-loop μ-loop
 mul-b-3 c = search needs
@@ -35,13 +53,16 @@ add-b-2 : tie.Need-add-b-2 Inv-loop μ-loop
 add-b-2 c = search needs
 
 add-b-3 : tie.Need-add-b-3 Inv-loop μ-loop
-add-b-3 c = ?
+unfolding Room
+add-b-3 c = omega (arith, room c)
 
 mul-b-4 : tie.Need-mul-b-4 Inv-loop μ-loop
-mul-b-4 c = ?
+unfolding Room
+mul-b-4 c = omega (arith, room c)
 
 shared-slice-read-b : tie.Need-shared-slice-read-b Inv-loop μ-loop
-shared-slice-read-b c = ?
+unfolding Room
+shared-slice-read-b c = omega (arith, room (c .before))
 
 mul-b-5 : tie.Need-mul-b-5 Inv-loop μ-loop
 mul-b-5 c = search needs
@@ -56,10 +77,17 @@ loop-less : tie.Need-loop-less Inv-loop μ-loop
 loop-less c = search needs
 
 loop-again : tie.Need-loop-again Inv-loop μ-loop
-loop-again c = ?
+loop-again c =
+    let h = c .before .before in
+    let a = h .before .args in
+    (search needs, fill-step nan (λ (k : ℕ). pixelAt (now (a .samples)) (sampleAt (a .width) (a .column) (a .row) k)) 16 (h .loop .b) (h .loop .i) _ (h .loop .inv .1) (search needs) refl)
 
 returns : tie.Need-returns Inv-loop μ-loop
-returns c = ?
+unfolding blockOf
+returns c =
+    let h = c .before in
+    let a = h .before .args in
+    fill-end nan (λ (k : ℕ). pixelAt (now (a .samples)) (sampleAt (a .width) (a .column) (a .row) k)) 16 (h .loop .b) (h .loop .i) (h .loop .inv .1) (omega arith)
 
 pub gather-spec : {M : Type 1} → statement M
 gather-spec =
