@@ -34,5 +34,5 @@ unfolding blockOf
 blockOf-real s width height column row e h k real i l =
     let rows : 4 * (row + 1) ≤ height = omega arith in
     let inside : sampleAt width column row i < length s =
-        omega (arith, sample-within width column row i h l .1, mul-le-mul-right width rows, mul-comm width height) in
+    omega (arith, sample-within width column row i h l .1, mul-le-mul-right width rows, mul-comm width height) in
     rw (getD-tabulate (λ (m : ℕ). pixelAt s (sampleAt width column row m)) nan 16 i l) (real (sampleAt width column row i) inside)

@@ -4,7 +4,7 @@ ghost use mathlib.Core.Path.{_≡_};
 ghost use mathlib.Core.List.{_++_};
 ghost use Prim.Native.Nat.{_+_, _*_, _<_, _≤_};
 ghost use lib.ListN.{length, drop};
-ghost use Rattle.tile.specs.Place.{badSide, badSize, along, rowLength};
+ghost use Rattle.tile.specs.Place.{longestSide, badSide, badSize, along, rowLength};
 ghost use Rattle.tile.specs.Tile.{blockOf, rowBytes, tileBytes};
 use refine::options::Options;
 
@@ -59,7 +59,7 @@ fn encode_row(samples: &[f32], width: usize, row: usize, o: Options, out: &mut [
 
 // All rows of blocks, each into its own stretch; the later bytes stay.
 pub fn encode_rows(samples: &[f32], width: usize, rows: usize, o: Options, out: &mut [u8])
-    requires { ⌜ (4 * rows * width ≤ length (now samples)) × (rows * rowLength width ≤ length (now out)) ⌝ }
+    requires { ⌜ (width ≤ longestSide) × (4 * rows * width ≤ length (now samples)) × (rows * rowLength width ≤ length (now out)) ⌝ }
     ensures { λ _. ⌜ now (out .exit) ≡ tileBytes (now (samples .entry)) width o rows ++ drop (rows * rowLength width) (now (out .entry)) ⌝ }
 {
     let long = 8 * (width / 4);
