@@ -1,0 +1,161 @@
+// Document 01, "Calls and numbers": every refusal, its number, and the checks of each call, in number order.
+ghost use mathlib.Core.Path.{_≡_};
+ghost use mathlib.Core.List.{[], _∷_};
+ghost use lib.ListN.{length};
+ghost use Rattle.bc4.specs.Refusals.{numberOf, lowest, firstNan, sizeCheck, countCheck, lengthCheck, roomCheck, ditherCheck, placeCheck, nanCheck, encodeChecks, decodeChecks, errorChecks, resendChecks, tileChecks, viewChecks, recordChecks};
+use refine::options::Options;
+
+pub enum Refusal {
+    // A side of the tile is 0, over 1,024 or no multiple of 4.
+    Size,
+    // The sample count is not 16, or not width * height.
+    SampleCount,
+    // The encoded length is not 8, or not width * height / 2.
+    EncodedLength,
+    // The output is shorter than width * height / 2.
+    OutputLength,
+    // A resend with dither.
+    DitheredResend,
+    // The column or the row of blocks is none of the tile's.
+    NoSuchBlock,
+    // A sample is NaN: the lowest index.
+    SampleIsNan(usize),
+    // The options word of a record is malformed.
+    WordMalformed,
+}
+
+pub enum Checked {
+    Passed,
+    Refused(Refusal),
+}
+
+pub fn number(refusal: Refusal) -> u8
+    ensures { λ r. ⌜ r ≡ numberOf refusal ⌝ }
+{
+    match refusal {
+        Refusal::Size => 1,
+        Refusal::SampleCount => 2,
+        Refusal::EncodedLength => 3,
+        Refusal::OutputLength => 4,
+        Refusal::DitheredResend => 5,
+        Refusal::NoSuchBlock => 6,
+        Refusal::SampleIsNan(_) => 7,
+        Refusal::WordMalformed => 8,
+    }
+}
+
+// The index of the first NaN, or the length where there is none.
+fn first_nan(samples: &[f32]) -> usize
+    ensures { λ r. ⌜ r ≡ firstNan (now (samples .entry)) ⌝ }
+{
+    let mut i = 0;
+    while i < samples.len() {
+        let x = samples[i];
+        if x != x {
+            return i;
+        }
+        i += 1;
+    }
+    i
+}
+
+fn no_nan(samples: &[f32]) -> Checked
+    ensures { λ r. ⌜ r ≡ lowest (nanCheck (now (samples .entry)) ∷ []) ⌝ }
+{
+    let i = first_nan(samples);
+    if i < samples.len() {
+        return Checked::Refused(Refusal::SampleIsNan(i));
+    }
+    Checked::Passed
+}
+
+pub fn encode(samples: &[f32]) -> Checked
+    ensures { λ r. ⌜ r ≡ lowest (encodeChecks (now (samples .entry))) ⌝ }
+{
+    if samples.len() != 16 {
+        return Checked::Refused(Refusal::SampleCount);
+    }
+    no_nan(samples)
+}
+
+pub fn decode(encoded: &[u8]) -> Checked
+    ensures { λ r. ⌜ r ≡ lowest (decodeChecks (now (encoded .entry))) ⌝ }
+{
+    if encoded.len() != 8 {
+        return Checked::Refused(Refusal::EncodedLength);
+    }
+    Checked::Passed
+}
+
+pub fn error(samples: &[f32], encoded: &[u8]) -> Checked
+    ensures { λ r. ⌜ r ≡ lowest (errorChecks (now (samples .entry)) (now (encoded .entry))) ⌝ }
+{
+    if samples.len() != 16 {
+        return Checked::Refused(Refusal::SampleCount);
+    }
+    if encoded.len() != 8 {
+        return Checked::Refused(Refusal::EncodedLength);
+    }
+    no_nan(samples)
+}
+
+pub fn resend(samples: &[f32], held: &[u8], o: Options) -> Checked
+    ensures { λ r. ⌜ r ≡ lowest (resendChecks (now (samples .entry)) (now (held .entry)) o) ⌝ }
+{
+    if samples.len() != 16 {
+        return Checked::Refused(Refusal::SampleCount);
+    }
+    if held.len() != 8 {
+        return Checked::Refused(Refusal::EncodedLength);
+    }
+    if o.dither {
+        return Checked::Refused(Refusal::DitheredResend);
+    }
+    no_nan(samples)
+}
+
+pub fn tile(samples: &[f32], width: usize, height: usize, out: &[u8]) -> Checked
+    ensures { λ r. ⌜ r ≡ lowest (tileChecks (now (samples .entry)) width height (length (now (out .entry)))) ⌝ }
+{
+    if tile::bad_size(width, height) {
+        return Checked::Refused(Refusal::Size);
+    }
+    if samples.len() != width * height {
+        return Checked::Refused(Refusal::SampleCount);
+    }
+    if out.len() < width * height / 2 {
+        return Checked::Refused(Refusal::OutputLength);
+    }
+    no_nan(samples)
+}
+
+pub fn view(tile: &[u8], width: usize, height: usize, column: usize, row: usize) -> Checked
+    ensures { λ r. ⌜ r ≡ lowest (viewChecks (length (now (tile .entry))) width height column row) ⌝ }
+{
+    if tile::bad_size(width, height) {
+        return Checked::Refused(Refusal::Size);
+    }
+    if tile.len() != width * height / 2 {
+        return Checked::Refused(Refusal::EncodedLength);
+    }
+    if (column >= width / 4) | (row >= height / 4) {
+        return Checked::Refused(Refusal::NoSuchBlock);
+    }
+    Checked::Passed
+}
+
+// Of a record of the program, whose word comes last.
+pub fn record(samples: &[f32], malformed: bool) -> Checked
+    ensures { λ r. ⌜ r ≡ lowest (recordChecks (now (samples .entry)) malformed) ⌝ }
+{
+    let checked = encode(samples);
+    match checked {
+        Checked::Refused(q) => Checked::Refused(q),
+        Checked::Passed => {
+            if malformed {
+                return Checked::Refused(Refusal::WordMalformed);
+            }
+            Checked::Passed
+        }
+    }
+}
