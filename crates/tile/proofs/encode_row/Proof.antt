@@ -15,7 +15,7 @@ use Rattle.tile.proofs.encode_row.Statement.{statement}
 use Rattle.tile.proofs.encode_row.Tie as tie
 
 abbrev Inv-loop : tie.InvT-loop
-Inv-loop samples width row o out₀ column₀ column-end out column = (column ≤ along width) × (length out ≡ length out₀) × (out ≡ rowBytes samples width o row column ++ drop (8 * column) out₀)
+Inv-loop samples width row o out₀ column₀ column-end out column = (column ≤ along width) × (out ≡ rowBytes samples width o row column ++ drop (8 * column) out₀) × (length out ≡ length out₀)
 
 abbrev μ-loop : tie.MeasureT-loop
 μ-loop samples width row o out₀ column₀ column-end out column = along width - column
@@ -60,12 +60,17 @@ loop-less c = search needs
 loop-again : tie.Need-loop-again Inv-loop μ-loop
 loop-again c =
     let p = c .before .before .put in
-    let at = c .before .before .before .before in
-    let g = at .before .before .before in
-    let h = g .before .before in
-    let n = h .loop .column in
-    let made = p .ensures ∙ at .bytes .ensures ∙ ap bytesOf (at .before .compress-bc4-block .ensures ∙ ap (λ b. compressed b (h .before .before .before .args .o)) (g .gather .ensures)) in
-    (search needs, same-len-mid (8 * n) (8 * n + 8 - 8 * n) (h .loop .out) (p .last .0) (p .kept .0) ∙ h .loop .inv .1, row-step _ _ _ _ _ _ _ _ made (h .loop .inv .2))
+    let coded = c .before .before .before .before in
+    let gathered = coded .before .before .before in
+    let h = gathered .before .before in
+    let made =
+    p .ensures ∙ coded .bytes .ensures
+    ∙ ap bytesOf (coded .before .compress-bc4-block .ensures ∙ ap (λ b. compressed b (h .before .before .before .args .o)) (gathered .gather .ensures)) in
+    let at = 8 * h .loop .column in (
+      search needs,
+      row-step _ _ _ _ _ _ _ _ made (h .loop .inv .1),
+      same-len-mid at (at + 8 - at) (h .loop .out) (p .last .0) (p .kept .0) ∙ h .loop .inv .2,
+    )
 
 same-length : tie.Need-same-length Inv-loop μ-loop
 same-length c = search needs
@@ -76,7 +81,7 @@ returns c =
     let a = h .before .before .before .args in
     let e : h .loop .column ≡ along (a .width) = omega arith in
     let none : length (now (a .out)) ≤ 8 * along (a .width) = omega arith in
-    h .loop .inv .2 ∙ rw (e, drop-of-length-le (now (a .out)) none) (append-nil _)
+    h .loop .inv .1 ∙ rw (e, drop-of-length-le (now (a .out)) none) (append-nil _)
 
 pub encode-row-spec : {M : Type 1} → statement M
 encode-row-spec =

@@ -15,7 +15,7 @@ use Rattle.tile.proofs.encode_rows.Statement.{statement}
 use Rattle.tile.proofs.encode_rows.Tie as tie
 
 abbrev Inv-loop : tie.InvT-loop
-Inv-loop samples width rows o out₀ long row₀ out row = (row ≤ rows) × (length out ≡ length out₀) × (out ≡ tileBytes samples width o row ++ drop (row * rowLength width) out₀)
+Inv-loop samples width rows o out₀ long row₀ out row = (row ≤ rows) × (out ≡ tileBytes samples width o row ++ drop (row * rowLength width) out₀) × (length out ≡ length out₀)
 
 abbrev μ-loop : tie.MeasureT-loop
 μ-loop samples width rows o out₀ long row₀ out row = rows - row
@@ -40,7 +40,7 @@ mul-long c = search needs
 
 loop-holds : tie.Need-loop-holds Inv-loop μ-loop
 unfolding tileBytes
-loop-holds c = (search needs, refl, rw (zero-mul (rowLength (c .before .before .args .width))))
+loop-holds c = (search needs, rw (zero-mul (rowLength (c .before .before .args .width))), refl)
 
 mul-at : tie.Need-mul-at Inv-loop μ-loop
 unfolding Room
@@ -75,8 +75,11 @@ loop-again c =
     let p = c .before .before .encode-row in
     let h = c .before .before .before .before .before in
     let long = rowLength (h .before .before .before .args .width) in
-    let at = h .loop .row * long in
-    (search needs, same-len-mid at (at + long - at) (h .loop .out) (p .last .1 .1 .1 .1 .0) (p .kept .1 .1 .1 .1 .0) ∙ h .loop .inv .1, tile-step _ _ _ _ _ _ _ (p .ensures) (h .loop .inv .2))
+    let at = h .loop .row * long in (
+      search needs,
+      tile-step _ _ _ _ _ _ _ (p .ensures) (h .loop .inv .1),
+      same-len-mid at (at + long - at) (h .loop .out) (p .last .1 .1 .1 .1 .0) (p .kept .1 .1 .1 .1 .0) ∙ h .loop .inv .2,
+    )
 
 same-length : tie.Need-same-length Inv-loop μ-loop
 same-length c = search needs
@@ -85,7 +88,7 @@ returns : tie.Need-returns Inv-loop μ-loop
 returns c =
     let h = c .before in
     let e : h .loop .row ≡ h .before .before .before .args .rows = omega arith in
-    h .loop .inv .2 ∙ rw e
+    h .loop .inv .1 ∙ rw e
 
 pub encode-rows-spec : {M : Type 1} → statement M
 encode-rows-spec =
