@@ -34,7 +34,7 @@ module _ (width height : ℕ) (good : badSize width height ≡ false) where
   unfolding badSize
   size-good = let g = neither _ _ good in (side-good width (g .0), side-good height (g .1))
 
-  -- the area fits
+  -- so that the area fits a word
   pub size-small : width * height ≤ longestSide * longestSide
   size-small = mul-le-mul (size-good .0 .short) (size-good .1 .short)
 

@@ -2,7 +2,7 @@
 use mathlib.Core.Path.{_≡_, refl, sym, ap}
 use mathlib.Core.List.{List}
 use mathlib.Core.Bool.{false}
-use Prim.Native.Nat.{ℕ, _+_, _*_, _/_, _%_, _<_, _≤_}
+use Prim.Native.Nat.{ℕ, _+_, _*_, _/_, _<_, _≤_}
 use native.Mathlib.Nat.{mul-le-mul-left, mul-le-mul-right, mul-comm}
 use native.Mathlib.Omega.{arith}
 use lib.ListN.{length}
@@ -25,7 +25,10 @@ sample-within width column row i h l =
 pub blockOf-whole : (s : List Float) → length s ≡ 16 → blockOf s 4 0 0 ≡ s
 unfolding blockOf
 blockOf-whole s e =
-    sym (fill-end nan (λ (i : ℕ). pixelAt s (sampleAt 4 0 0 i)) 16 s 16 (record { size = e; done = λ k h. let z : k ≡ sampleAt 4 0 0 k = omega arith in ap (pixelAt s) z }) refl)
+    sym (fill-end nan (λ (i : ℕ). pixelAt s (sampleAt 4 0 0 i)) 16 s 16 (record { size = e; done = λ k h. ap (pixelAt s) (here k) }) refl)
+  where
+    here : (k : ℕ) → k ≡ sampleAt 4 0 0 k
+    here k = omega arith
 
 -- Where no sample of the tile is NaN, none of a block is.
 pub blockOf-real : (s : List Float) (width height column row : ℕ) → length s ≡ width * height → column < along width → row < along height
@@ -33,6 +36,6 @@ pub blockOf-real : (s : List Float) (width height column row : ℕ) → length s
 unfolding blockOf
 blockOf-real s width height column row e h k real i l =
     let rows : 4 * (row + 1) ≤ height = omega arith in
-    let inside : sampleAt width column row i < length s =
-    omega (arith, sample-within width column row i h l .1, mul-le-mul-right width rows, mul-comm width height) in
+    let within = sample-within width column row i h l .1 in
+    let inside : sampleAt width column row i < length s = omega (arith, mul-le-mul-right width rows, mul-comm width height) in
     rw (getD-tabulate (λ (m : ℕ). pixelAt s (sampleAt width column row m)) nan 16 i l) (real (sampleAt width column row i) inside)

@@ -1,5 +1,5 @@
 -- Bytes that grow by one lent stretch after the other: the blocks of a row, and the rows of a tile. Assumes nothing.
-use mathlib.Core.Path.{_≡_, refl, sym, _∙_, ap}
+use mathlib.Core.Path.{_≡_, refl, sym}
 use mathlib.Core.List.{List, _++_, append-assoc}
 use Prim.Native.Nat.{ℕ, zero, suc, _+_, _*_, _-_}
 use native.Mathlib.Nat.{zero-mul, suc-mul}
@@ -41,7 +41,8 @@ module _ (s : List Float) (width : ℕ) (o : Options) where
       rw (add-one n, d, ← e) (grown (rowBytes s width o row n) new old out (8 * n) 8 (row-length row n) p)
 
   pub tile-step : (n : ℕ) (new old out : List ℕ) → new ≡ rowBytes s width o n (along width) → out ≡ tileBytes s width o n ++ drop (n * rowLength width) old
-      → putMid (n * rowLength width) (n * rowLength width + rowLength width - n * rowLength width) out new ≡ tileBytes s width o (n + 1) ++ drop ((n + 1) * rowLength width) old
+      → putMid (n * rowLength width) (n * rowLength width + rowLength width - n * rowLength width) out new
+      ≡ tileBytes s width o (n + 1) ++ drop ((n + 1) * rowLength width) old
   unfolding tileBytes
   tile-step n new old out e p =
       rw (add-one n, suc-mul n (rowLength width), ← e) (grown (tileBytes s width o n) new old out (n * rowLength width) (rowLength width) (tile-length n) p)

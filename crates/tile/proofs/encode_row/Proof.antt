@@ -15,7 +15,8 @@ use Rattle.tile.proofs.encode_row.Statement.{statement}
 use Rattle.tile.proofs.encode_row.Tie as tie
 
 abbrev Inv-loop : tie.InvT-loop
-Inv-loop samples width row o out₀ column₀ column-end out column = (column ≤ along width) × (out ≡ rowBytes samples width o row column ++ drop (8 * column) out₀) × (length out ≡ length out₀)
+Inv-loop samples width row o out₀ column₀ column-end out column =
+    (column ≤ along width) × (out ≡ rowBytes samples width o row column ++ drop (8 * column) out₀) × (length out ≡ length out₀)
 
 abbrev μ-loop : tie.MeasureT-loop
 μ-loop samples width row o out₀ column₀ column-end out column = along width - column
@@ -63,9 +64,9 @@ loop-again c =
     let coded = c .before .before .before .before in
     let gathered = coded .before .before .before in
     let h = gathered .before .before in
-    let made =
-    p .ensures ∙ coded .bytes .ensures
-    ∙ ap bytesOf (coded .before .compress-bc4-block .ensures ∙ ap (λ b. compressed b (h .before .before .before .args .o)) (gathered .gather .ensures)) in
+    let o = h .before .before .before .args .o in
+    let block = coded .before .compress-bc4-block .ensures ∙ ap (λ b. compressed b o) (gathered .gather .ensures) in
+    let made = p .ensures ∙ coded .bytes .ensures ∙ ap bytesOf block in
     let at = 8 * h .loop .column in (
       search needs,
       row-step _ _ _ _ _ _ _ _ made (h .loop .inv .1),

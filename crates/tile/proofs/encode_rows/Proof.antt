@@ -15,7 +15,8 @@ use Rattle.tile.proofs.encode_rows.Statement.{statement}
 use Rattle.tile.proofs.encode_rows.Tie as tie
 
 abbrev Inv-loop : tie.InvT-loop
-Inv-loop samples width rows o out₀ long row₀ out row = (row ≤ rows) × (out ≡ tileBytes samples width o row ++ drop (row * rowLength width) out₀) × (length out ≡ length out₀)
+Inv-loop samples width rows o out₀ long row₀ out row =
+    (row ≤ rows) × (out ≡ tileBytes samples width o row ++ drop (row * rowLength width) out₀) × (length out ≡ length out₀)
 
 abbrev μ-loop : tie.MeasureT-loop
 μ-loop samples width rows o out₀ long row₀ out row = rows - row

@@ -77,17 +77,11 @@ loop-less : tie.Need-loop-less Inv-loop μ-loop
 loop-less c = search needs
 
 loop-again : tie.Need-loop-again Inv-loop μ-loop
-loop-again c =
-    let h = c .before .before in
-    let a = h .before .args in
-    (search needs, fill-step nan (λ (k : ℕ). pixelAt (now (a .samples)) (sampleAt (a .width) (a .column) (a .row) k)) 16 (h .loop .b) (h .loop .i) _ (h .loop .inv .1) (search needs) refl)
+loop-again c = let h = c .before .before in (search needs, fill-step nan _ 16 _ _ _ (h .loop .inv .1) (search needs) refl)
 
 returns : tie.Need-returns Inv-loop μ-loop
 unfolding blockOf
-returns c =
-    let h = c .before in
-    let a = h .before .args in
-    fill-end nan (λ (k : ℕ). pixelAt (now (a .samples)) (sampleAt (a .width) (a .column) (a .row) k)) 16 (h .loop .b) (h .loop .i) (h .loop .inv .1) (omega arith)
+returns c = let h = c .before in fill-end nan _ 16 _ _ (h .loop .inv .1) (omega arith)
 
 pub gather-spec : {M : Type 1} → statement M
 gather-spec =

@@ -29,9 +29,7 @@ loop-less : tie.Need-loop-less Inv-loop μ-loop
 loop-less c = search needs
 
 loop-again : tie.Need-loop-again Inv-loop μ-loop
-loop-again c =
-    let h = c .before in
-    (search needs, fill-step 0 (λ (k : ℕ). getD (h .before .args .t2) k 0) 8 (h .loop .out) (h .loop .i) _ (h .loop .inv .1) (search needs) refl)
+loop-again c = let h = c .before in (search needs, fill-step 0 _ 8 _ _ _ (h .loop .inv .1) (search needs) refl)
 
 same-length : tie.Need-same-length Inv-loop μ-loop
 same-length c = search needs
@@ -39,9 +37,7 @@ same-length c = search needs
 returns : tie.Need-returns Inv-loop μ-loop
 returns c =
     let h = c .before in
-    let b = h .before .args .t2 in
-    let f : ℕ → ℕ = λ k. getD b k 0 in
-    fill-end 0 f 8 (h .loop .out) (h .loop .i) (h .loop .inv .1) (omega arith) ∙ sym (fill-end 0 f 8 b 8 (record { size = search needs; done = λ k l. refl }) refl)
+    fill-end 0 _ 8 _ _ (h .loop .inv .1) (omega arith) ∙ sym (fill-end 0 _ 8 (h .before .args .t2) 8 (record { size = search needs; done = λ k l. refl }) refl)
 
 pub put-spec : {M : Type 1} → statement M
 put-spec =
