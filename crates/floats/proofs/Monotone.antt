@@ -2,12 +2,12 @@
 -- Overflow, subnormals, infinities and zeros of either sign are all covered. Assumes nothing.
 use mathlib.Core.Path.{_≡_, refl, sym, ap, ap₂, _∙_, subst}
 use Prim.Native.Nat.{ℕ, _*_, _≤_, _<_}
-use native.Mathlib.Nat.{mul-pos, mul-comm, mul-assoc, mul-left-comm, zero-mul}
+use native.Mathlib.Nat.{mul-pos, mul-comm as n-comm, mul-assoc, mul-left-comm, zero-mul}
 use native.Mathlib.Omega.{arith}
-use mathlib.Core.Bool.{Bool, true, false, _&&_, _||_}
+use mathlib.Core.Bool.{Bool, true, false, cond, _&&_, _||_}
 use lib.IntN.{ℤ}
 use lib.Dec.{T, ltb, eqb, eqb→eq, ltb→lt, lit<}
-use lib.Ieee.{Float, nan, inf, fin, Format, binary32, binary64, up, down, round, neg, add, sub, mul, lt, le, eq, isNan}
+use lib.Ieee.{Float, nan, inf, fin, Format, binary32, binary64, up, down, unlike, round, neg, add, sub, mul, lt, le, eq, isNan}
 use lib.Ieee.Bits.{is-true}
 use lib.Ieee.Fits.{down-pos, and-l, and-r}
 use lib.Ieee.Order.{round-mono}
@@ -129,7 +129,7 @@ mul-fin f a j s m e t n d h =
     (leq-scaled s t (m * up e * down d) (n * up d * down e) (a * up j * down j) (leq-of-le s m e t n d h)))))
   where
     crossed : (a m j d : ℕ) → m * d * (a * j) ≡ a * m * (j * d)
-    crossed a m j d = simp (mul-assoc, mul-comm, mul-left-comm)
+    crossed a m j d = simp (mul-assoc, n-comm, mul-left-comm)
 
 pub mul-mono : (f : Format) (c x y : Float) → T (positive c) → le x y ≡ true → le (mul f c x) (mul f c y) ≡ true
 mul-mono f nan x y p h = absurd p
@@ -139,6 +139,27 @@ mul-mono f (fin false a j) x y p h =
     extended (mul f (fin false a j)) (λ s. infinite f a j s (ltb→lt 0 a p))
     (λ s m e. rw (product f a j s m e) (round-real f s (a * up j * (m * up e)) (down j * down e)))
     (mul-fin f a j) x y h
+
+unlike-comm : (s t : Bool) → unlike s t ≡ unlike t s
+unlike-comm true true = refl
+unlike-comm true false = refl
+unlike-comm false true = refl
+unlike-comm false false = refl
+
+-- a product may be turned round
+pub mul-comm : (f : Format) (x y : Float) → mul f x y ≡ mul f y x
+unfolding mul
+mul-comm f nan nan = refl
+mul-comm f nan (inf t) = refl
+mul-comm f nan (fin t n d) = refl
+mul-comm f (inf s) nan = refl
+mul-comm f (inf s) (inf t) = ap inf (unlike-comm s t)
+mul-comm f (inf s) (fin t n d) = ap (λ (u : Bool). cond (eqb n 0) nan (inf u)) (unlike-comm s t)
+mul-comm f (fin s m e) nan = refl
+mul-comm f (fin s m e) (inf t) = ap (λ (u : Bool). cond (eqb m 0) nan (inf u)) (unlike-comm s t)
+mul-comm f (fin s m e) (fin t n d) =
+    ap₂ (λ (a c : ℕ). round f (unlike s t) a c) (n-comm (m * up e) (n * up d)) (n-comm (down e) (down d))
+    ∙ ap (λ (u : Bool). round f u (n * up d * (m * up e)) (down d * down e)) (unlike-comm s t)
 
 -- ---- a sum with a finite term
 -- the three values over one denominator
@@ -160,10 +181,10 @@ add-fin f u b j s m e t n d h =
     (sum-leq s t u P Q B (leq-scaled s t (m * up e * down d) (n * up d * down e) (down j) (leq-of-le s m e t n d h)))))
   where
     over : (x e d j : ℕ) → x * (e * d * j) ≡ x * d * j * e
-    over x e d j = simp (mul-assoc, mul-comm, mul-left-comm)
+    over x e d j = simp (mul-assoc, n-comm, mul-left-comm)
 
     other : (x e d j : ℕ) → x * (e * d * j) ≡ x * e * j * d
-    other x e d j = simp (mul-assoc, mul-comm, mul-left-comm)
+    other x e d j = simp (mul-assoc, n-comm, mul-left-comm)
 
     third : (x a j : ℕ) → x * (a * j) ≡ x * a * j
     third x a j = sym (mul-assoc x a j)
@@ -199,7 +220,7 @@ add-comm f (fin s m e) (fin t n d) =
     let a = m * up e * down d in
     let b = n * up d * down e in
     sum-is f s a t b (down e * down d)
-    ∙ ap (λ (c : ℕ). round f (signOf s a t b) (gap s a t b) c) (mul-comm (down e) (down d))
+    ∙ ap (λ (c : ℕ). round f (signOf s a t b) (gap s a t b) c) (n-comm (down e) (down d))
     ∙ ap₂ (λ (u : Bool) (k : ℕ). round f u k (down d * down e)) (sign-comm s t a b) (gap-comm s t a b)
     ∙ sym (sum-is f t b s a (down d * down e))
 
