@@ -1,5 +1,5 @@
 -- A float by its bits: `magnitude` is how many of 2 ^ -149 it is. Assumes nothing.
-use mathlib.Core.Path.{_≡_, sym, ap, _∙_, subst}
+use mathlib.Core.Path.{_≡_, sym, _∙_, subst}
 use Prim.Native.Nat.{ℕ, zero, suc, _+_, _*_, _/_, _%_, _^_, _<_}
 use native.Mathlib.Nat.{eq-of-mul-eq-mul-right, mul-one}
 use mathlib.Core.Bool.{Bool, true, false, cond}

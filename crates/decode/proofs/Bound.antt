@@ -2,7 +2,7 @@
 -- formats. Assumes nothing.
 use mathlib.Core.Path.{_≡_, refl, sym, ap, ap₂, _∙_, subst}
 use mathlib.Core.Bool.{Bool, true, false, cond}
-use Prim.Native.Nat.{ℕ, zero, suc, _+_, _*_, _/_, _%_, _^_, _≤_, _<_}
+use Prim.Native.Nat.{ℕ, zero, suc, _+_, _*_, _^_, _≤_, _<_}
 use native.Mathlib.Nat.{le-trans, le-of-eq, mul-comm, mul-assoc, mul-left-comm, mul-zero, zero-mul, mul-add, add-mul, mul-le-mul-right}
 use native.Mathlib.Omega.{arith}
 use lib.Dec.{lit≤}
@@ -14,8 +14,8 @@ use Rattle.values.specs.Values.{steps, levelOf, valueOf}
 use Rattle.index_list.specs.Layout.{byteAt}
 use Rattle.block.specs.Samples.{pixelAt}
 use Rattle.palette.specs.Palettes.{entry, fifth1, fifth2, fifth3, fifth4, inter6Palette, blended, colors}
-use Rattle.decode.specs.Meaning.{isSix, sixValues, tableOf, valueAt, blockIndex, sampleAt, decoded}
-use Rattle.decode.specs.Exact.{nearness, exactSix, exactFour, exactNum, exactDen, magnitude, Close}
+use Rattle.decode.specs.Meaning.{isSix, sixValues, tableOf, valueAt, blockIndex, decoded}
+use Rattle.decode.specs.Exact.{nearness, partsOf, exactFour, exactNum, exactDen, magnitude, Close}
 use Rattle.decode.proofs.Laws.{decoded-at, byte-lt, index-lt}
 use Rattle.decode.proofs.Bits.{toBits-units}
 use Rattle.decode.proofs.Ends.{Near, End, end-at, ends-order, below-level}
@@ -85,7 +85,7 @@ module _ (d n0 n1 : ℕ) (x y : Float) (X : End x d n0) (Y : End y d n1) where
   sevenths : Y .near .r ≤ X .near .r → (m k : ℕ) → m ≤ 6 → m + k ≡ 7 → Bounded (blended (inter6Palette x y) m) (m * n0 + k * n1) (7 * d)
   sevenths l m k M s = mixed 7 m k 132 (blended (inter6Palette x y) m) (lit≤ tt) s (six-blend x y (X .near .r) (Y .near .r) m k (X .near .val) (Y .near .val) l (X .top) M s)
 
-  six-bounded : Y .near .r ≤ X .near .r → (k : ℕ) → k < 8 → Bounded (entry (sixValues x y) k) (exactSix n0 n1 k) (7 * d)
+  six-bounded : Y .near .r ≤ X .near .r → (k : ℕ) → k < 8 → Bounded (entry (sixValues x y) k) (partsOf 7 n0 n1 k) (7 * d)
   unfolding sixValues
   six-bounded l zero h = first 7 (lit≤ tt) refl
   six-bounded l (suc zero) h = second 7 (lit≤ tt) refl
@@ -147,7 +147,7 @@ module _ (snorm : Bool) (c0 c1 k : ℕ) (H0 : c0 < 256) (H1 : c1 < 256) (K : k <
   abbrev y : Float
   y = valueOf snorm c1
 
-  pub six-at : isSix snorm c0 c1 ≡ true → Bounded (entry (sixValues x y) k) (exactSix n0 n1 k) (7 * d)
+  pub six-at : isSix snorm c0 c1 ≡ true → Bounded (entry (sixValues x y) k) (partsOf 7 n0 n1 k) (7 * d)
   six-at e =
       let X = end-at snorm c0 H0 in
       let Y = end-at snorm c1 H1 in
@@ -158,7 +158,7 @@ module _ (snorm : Bool) (c0 c1 k : ℕ) (H0 : c0 < 256) (H1 : c1 < 256) (K : k <
   value-bounded = go (isSix snorm c0 c1) refl
     where
       go : (six : Bool) → isSix snorm c0 c1 ≡ six
-          → Bounded (entry (cond six (sixValues x y) (colors x y)) k) (cond six (exactSix n0 n1 k) (exactFour d n0 n1 k)) (cond six 7 5 * d)
+          → Bounded (entry (cond six (sixValues x y) (colors x y)) k) (cond six (partsOf 7 n0 n1 k) (exactFour d n0 n1 k)) (cond six 7 5 * d)
       go true e = six-at e
       go false e = four-bounded d n0 n1 x y (end-at snorm c0 H0) (end-at snorm c1 H1) k K
 

@@ -1,7 +1,7 @@
 -- The ends' floats beside the fractions that they stand for. Assumes nothing.
 -- In this file and the next ones `t` is 2 ^ 123 units: 1 is 67108864 * t, and half the last place of a value up to 1 is 2 * t. It stays a variable
 -- wherever `omega` is used, which takes no number of more than 38 digits.
-use mathlib.Core.Path.{_≡_, sym, ap, _∙_, subst}
+use mathlib.Core.Path.{_≡_, sym, _∙_, subst}
 use mathlib.Core.Logic.{inl, inr}
 use Prim.Native.Nat.{ℕ, suc, _+_, _*_, _%_, _^_, _≤_, _<_}
 use native.Mathlib.Nat.{le-trans, le-of-eq, le-of-mul-le-mul-left, eq-or-lt-of-le, mul-comm, mul-left-comm, mul-le-mul-right, suc-mul}

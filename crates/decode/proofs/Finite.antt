@@ -1,12 +1,12 @@
 -- A block error is at most 64, whatever the samples: finite, and no NaN, so that a comparison of two means what it says. Assumes nothing.
-use mathlib.Core.Path.{_≡_, refl, sym, subst}
-use mathlib.Core.Bool.{Bool, true}
+use mathlib.Core.Path.{_≡_, subst}
+use mathlib.Core.Bool.{Bool}
 use mathlib.Core.List.{List}
-use Prim.Native.Nat.{ℕ, zero, suc, _+_, _*_, _^_, _≤_}
+use Prim.Native.Nat.{ℕ, zero, suc, _+_, _*_, _≤_}
 use native.Mathlib.Omega.{arith}
 use lib.Dec.{lit≤}
-use lib.Ieee.{Float, binary32, ofBits, le}
-use Rattle.floats.specs.Arithmetic.{_⊖_, f0, f1}
+use lib.Ieee.{Float, binary32, ofBits}
+use Rattle.floats.specs.Arithmetic.{_⊖_}
 use Rattle.floats.specs.Helpers.{entryClamp}
 use Rattle.floats.specs.Bounds.{Within}
 use Rattle.floats.proofs.Ranges.{entry-from-0, entry-to-1}

@@ -1,5 +1,5 @@
--- The sum of a block error by one pixel more, and a decoded sample by its pixel. Assumes nothing.
-use mathlib.Core.Path.{_≡_, refl}
+-- The sum of a block error by one pixel more, a decoded sample by its pixel, and the sizes of bytes and indexes. Assumes nothing.
+use mathlib.Core.Path.{_≡_}
 use mathlib.Core.List.{List}
 use mathlib.Core.Bool.{Bool}
 use Prim.Native.Nat.{ℕ, _+_, _<_}
@@ -21,7 +21,6 @@ pub decoded-at : (snorm : Bool) (n i : ℕ) → i < 16 → pixelAt (decoded snor
 unfolding decoded
 decoded-at snorm n i h = getD-tabulate (sampleAt snorm n) nan 16 i h
 
--- ---- a block's bytes and indexes, as numbers
 pub byte-lt : (n j : ℕ) → byteAt n j < 256
 byte-lt n j = omega arith
 

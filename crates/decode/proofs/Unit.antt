@@ -2,7 +2,7 @@
 use mathlib.Core.Path.{_≡_, refl, ap, _∙_, subst}
 use mathlib.Core.Bool.{Bool, true, false, cond, not, _&&_, _||_}
 use Prim.Native.Nat.{ℕ, zero, suc, _+_, _*_, _^_, _≤_, _<_}
-use native.Mathlib.Nat.{le-trans, le-of-eq, le-of-mul-le-mul-right, le-of-mul-le-mul-left, mul-comm, mul-left-comm, mul-le-mul-right, suc-mul, mul-pos}
+use native.Mathlib.Nat.{le-trans, le-of-eq, le-of-mul-le-mul-right, le-of-mul-le-mul-left, mul-comm, mul-left-comm, mul-le-mul-right, suc-mul}
 use native.Mathlib.Omega.{arith}
 use lib.Dec.{T, ltb, eqb, lit≤, lit<}
 use lib.Ieee.{Float, nan, inf, fin, binary32, up, down, ofBits, add, mul, lt, le, eq}
@@ -13,8 +13,7 @@ use Rattle.floats.specs.Arithmetic.{_⊕_, _⊗_, f0, f1}
 use Rattle.floats.specs.Bounds.{Within}
 use Rattle.floats.proofs.Tests.{clash}
 use Rattle.floats.proofs.Fractions.{le-plain}
-use Rattle.floats.proofs.Order.{le-trans as f-trans, le-refl}
-use Rattle.floats.proofs.Ranges.{real-0, real-1}
+use Rattle.floats.proofs.Order.{le-trans as f-trans}
 use Rattle.floats.proofs.Monotone.{mul-mono, mul-comm as f-comm, add-mono, add-comm}
 use Rattle.floats.proofs.Bounds.{mul-within, unit-within}
 use Rattle.floats.proofs.Rounding.{Off}
@@ -24,7 +23,7 @@ use Rattle.index_list.specs.Layout.{byteAt}
 use Rattle.block.specs.Block.{InUnit}
 use Rattle.palette.specs.Palettes.{entry, fifth1, fifth2, fifth3, fifth4, colors}
 use Rattle.decode.specs.Meaning.{isSix, sixValues, tableOf, valueAt, blockIndex, decoded}
-use Rattle.decode.specs.Exact.{nearness, exactSix}
+use Rattle.decode.specs.Exact.{nearness, partsOf}
 use Rattle.decode.proofs.Laws.{decoded-at, byte-lt, index-lt}
 use Rattle.decode.proofs.Bits.{Units}
 use Rattle.decode.proofs.Ends.{steps-pos, steps-few, below-level}
@@ -66,7 +65,7 @@ below-one u num den r h l o =
 bounded-unit : (x : Float) (num den : ℕ) → 0 < den → num < den → den ≤ nearness → Bounded x num den → Unit x
 bounded-unit x num den D h l b = units-unit x (b .r) (b .val) (le-of-mul-le-mul-left (below-one (2 ^ 128) num den (b .r) h l (b .off)) D)
 
-exact-below : (d m n k : ℕ) → m ≤ d → n < d → k < 6 → exactSix m n (suc (suc k)) < 7 * d
+exact-below : (d m n k : ℕ) → m ≤ d → n < d → k < 6 → partsOf 7 m n (suc (suc k)) < 7 * d
 exact-below d m n zero M N h = omega arith
 exact-below d m n (suc zero) M N h = omega arith
 exact-below d m n (suc (suc zero)) M N h = omega arith
@@ -153,7 +152,7 @@ module _ (snorm : Bool) (c0 c1 : ℕ) (H0 : c0 < 256) (H1 : c1 < 256) where
   six-unit e zero h = end-unit snorm c0 H0
   six-unit e (suc zero) h = end-unit snorm c1 H1
   six-unit e (suc (suc k)) h =
-      bounded-unit (entry (sixValues (valueOf snorm c0) (valueOf snorm c1)) (suc (suc k))) (exactSix (levelOf snorm c0) (levelOf snorm c1) (suc (suc k))) (7 * steps snorm)
+      bounded-unit (entry (sixValues (valueOf snorm c0) (valueOf snorm c1)) (suc (suc k))) (partsOf 7 (levelOf snorm c0) (levelOf snorm c1) (suc (suc k))) (7 * steps snorm)
       (sevenths-pos (steps snorm) (steps-pos snorm))
       (exact-below (steps snorm) (levelOf snorm c0) (levelOf snorm c1) k (level-le snorm c0 H0) (below-level snorm c1 c0 H1 H0 e .1) (omega arith))
       (sevenths-few (steps snorm) (steps-few snorm))

@@ -8,27 +8,24 @@ use Rattle.values.specs.Values.{steps, levelOf}
 use Rattle.decode.specs.Meaning.{isSix}
 
 -- ---- the fraction. A byte stands for level / steps.
--- How many of the w parts: all of c0's level m for index 0, all of c1's level n for 1, and for k from 2 on (w + 1 - k)·m + (k - 1)·n.
+-- Index k in w-ths of a step, m and n being the levels of c0 and c1: c0 and c1 themselves, then (w + 1 - k)·m + (k - 1)·n.
 abbrev pub partsOf : ℕ → ℕ → ℕ → ℕ → ℕ
 partsOf w m n k = cond (eqb k 0) (w * m) (cond (eqb k 1) (w * n) ((w + 1 - k) * m + (k - 1) * n))
 
--- six values in sevenths
-abbrev pub exactSix : ℕ → ℕ → ℕ → ℕ
-exactSix m n k = partsOf 7 m n k
-
--- four values in fifths, then 0 and 1, where `one` is the level that means 1
+-- four values: fifths, then 0 and 1, where `one` is the level that means 1
 abbrev pub exactFour : ℕ → ℕ → ℕ → ℕ → ℕ
 exactFour one m n k = cond (eqb k 6) 0 (cond (eqb k 7) (5 * one) (partsOf 5 m n k))
 
+-- six values are sevenths
 unfoldable pub exactNum : Bool → ℕ → ℕ → ℕ → ℕ
 exactNum snorm c0 c1 k =
-    cond (isSix snorm c0 c1) (exactSix (levelOf snorm c0) (levelOf snorm c1) k) (exactFour (steps snorm) (levelOf snorm c0) (levelOf snorm c1) k)
+    cond (isSix snorm c0 c1) (partsOf 7 (levelOf snorm c0) (levelOf snorm c1) k) (exactFour (steps snorm) (levelOf snorm c0) (levelOf snorm c1) k)
 
 unfoldable pub exactDen : Bool → ℕ → ℕ → ℕ
 exactDen snorm c0 c1 = cond (isSix snorm c0 c1) 7 5 * steps snorm
 
 -- ---- the float, by its 32 bits: bit 31 is the sign, bits 23 to 30 are the exponent x, bits 0 to 22 the digits t.
--- x = 0 means t / 2^149; any x up to 254 means (2^23 + t)·2^(x - 1) / 2^149; 255 is for the infinities and NaN.
+-- x = 0 means t / 2^149; x from 1 to 254 means (2^23 + t)·2^(x - 1) / 2^149; 255 is for the infinities and NaN.
 -- So without its sign a float is a whole number of 2^-149, and this is the number:
 abbrev pub scaled : ℕ → ℕ → ℕ
 scaled zero t = t
