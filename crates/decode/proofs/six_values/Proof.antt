@@ -26,7 +26,17 @@ blended-requires-6 c κs = search needs
 
 returns : tie.Need-returns
 unfolding sixValues
-returns c = cc
+returns c =
+    let b = c .before .before .before in
+    rw (
+      c .blended6 .ensures,
+      c .before .blended5 .ensures,
+      c .before .before .blended4 .ensures,
+      b .blended3 .ensures,
+      b .before .blended2 .ensures,
+      b .before .before .blended .ensures,
+      b .before .before .before .new .ensures,
+    )
 
 pub six-values-spec : {M : Type 1} → statement M
 six-values-spec =
