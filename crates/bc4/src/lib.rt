@@ -1,2 +1,152 @@
-// What a board and a station link: document 01, "Calls and numbers".
+// What a board and a station link: document 01, "Calls and numbers". A block's eight bytes are handed back as one number, byte 0 lowest; `bytes`
+// lays them out.
+ghost use mathlib.Core.Path.{_≡_};
+ghost use lib.ListN.{length};
+ghost use Rattle.index_list.specs.Layout.{bytesOf};
+ghost use Rattle.bc4.specs.Refusals.{lowest, decodeChecks, viewChecks};
+ghost use Rattle.bc4.specs.Calls.{encodeAnswer, samplesAfter, errorAnswer, betterOf, resendAnswer, tileAnswer, outAfter, viewOf};
+
 pub mod refusal;
+
+use refine::options::Options;
+use refusal::Checked;
+use refusal::Refusal;
+
+pub enum Encoded {
+    Block(u64),
+    Refused(Refusal),
+}
+
+pub enum Scored {
+    Error(f32),
+    Refused(Refusal),
+}
+
+// The bytes to hold from now on, and whether they are the fresh ones.
+pub struct Held {
+    pub block: u64,
+    pub fresh: bool,
+}
+
+pub enum Resent {
+    Block(Held),
+    Refused(Refusal),
+}
+
+pub enum Tiled {
+    // So many bytes were written.
+    Written(usize),
+    Refused(Refusal),
+}
+
+// The eight bytes of a block, in order.
+pub fn bytes(block: u64) -> [u8; 8]
+    ensures { λ r. ⌜ r ≡ bytesOf block ⌝ }
+{
+    index_list::bytes(block)
+}
+
+pub fn encode_block(samples: &[f32], o: Options) -> Encoded
+    ensures { λ r. ⌜ r ≡ encodeAnswer (now (samples .entry)) o ⌝ }
+{
+    let checked = refusal::encode(samples);
+    match checked {
+        Checked::Refused(q) => Encoded::Refused(q),
+        Checked::Passed => {
+            let b = tile::gather(samples, 4, 0, 0);
+            Encoded::Block(encode::compress_bc4_block(&b, o))
+        }
+    }
+}
+
+// Sixteen samples into the caller's array, which stays as it was on a refusal.
+pub fn decode_block(encoded: &[u8], snorm: bool, samples: &mut [f32; 16]) -> Checked
+    ensures answer { λ r. ⌜ r ≡ lowest (decodeChecks (now (encoded .entry))) ⌝ }
+    ensures samples { λ r. ⌜ now (samples .exit) ≡ samplesAfter r snorm (now (encoded .entry)) (now (samples .entry)) ⌝ }
+{
+    if encoded.len() != 8 {
+        return Checked::Refused(Refusal::EncodedLength);
+    }
+    decode::decode_into(index_list::from_bytes(encoded), snorm, samples);
+    Checked::Passed
+}
+
+pub fn block_error(samples: &[f32], encoded: &[u8], snorm: bool) -> Scored
+    ensures { λ r. ⌜ r ≡ errorAnswer (now (samples .entry)) (now (encoded .entry)) snorm ⌝ }
+{
+    let checked = refusal::error(samples, encoded);
+    match checked {
+        Checked::Refused(q) => Scored::Refused(q),
+        Checked::Passed => {
+            let b = tile::gather(samples, 4, 0, 0);
+            Scored::Error(decode::block_error(&b, index_list::from_bytes(encoded), snorm))
+        }
+    }
+}
+
+// Encodes afresh, and hands back the fresh bytes exactly when their block error is strictly below that of the held ones.
+pub fn resend(samples: &[f32], held: &[u8], o: Options) -> Resent
+    ensures { λ r. ⌜ r ≡ resendAnswer (now (samples .entry)) (now (held .entry)) o ⌝ }
+{
+    let checked = refusal::resend(samples, held, o);
+    match checked {
+        Checked::Refused(q) => Resent::Refused(q),
+        Checked::Passed => {
+            let b = tile::gather(samples, 4, 0, 0);
+            Resent::Block(better(&b, index_list::from_bytes(held), o))
+        }
+    }
+}
+
+fn better(b: &[f32; 16], held: u64, o: Options) -> Held
+    ensures { λ r. ⌜ r ≡ betterOf (now (b .entry)) held o ⌝ }
+{
+    let fresh = encode::compress_bc4_block(b, o);
+    let fresh_error = decode::block_error(b, fresh, o.snorm);
+    let held_error = decode::block_error(b, held, o.snorm);
+    if fresh_error < held_error {
+        return Held {
+            block: fresh,
+            fresh: true,
+        };
+    }
+    Held {
+        block: held,
+        fresh: false,
+    }
+}
+
+// The blocks of a tile, row by row from the top left, into the first width * height / 2 bytes of `out`. Later bytes stay.
+pub fn encode_tile(samples: &[f32], width: usize, height: usize, o: Options, out: &mut [u8]) -> Tiled
+    ensures answer { λ r. ⌜ r ≡ tileAnswer (now (samples .entry)) width height (length (now (out .entry))) ⌝ }
+    ensures bytes { λ r. ⌜ now (out .exit) ≡ outAfter r (now (samples .entry)) width height o (now (out .entry)) ⌝ }
+{
+    let checked = refusal::tile(samples, width, height, out.len());
+    match checked {
+        Checked::Refused(q) => Tiled::Refused(q),
+        Checked::Passed => {
+            tile::encode_rows(samples, width, height / 4, o, out);
+            Tiled::Written(width * height / 2)
+        }
+    }
+}
+
+// The eight bytes of one block: that part of the caller's tile, or an empty part where `view_refusal` refuses.
+pub fn block_view(tile: &[u8], width: usize, height: usize, column: usize, row: usize) -> &[u8]
+    ensures { λ r. ⌜ now r ≡ viewOf (now (tile .entry)) width height column row ⌝ }
+{
+    let checked = view_refusal(tile, width, height, column, row);
+    match checked {
+        Checked::Refused(_) => &tile[0..0],
+        Checked::Passed => {
+            let at = 8 * (row * (width / 4) + column);
+            &tile[at..at + 8]
+        }
+    }
+}
+
+pub fn view_refusal(tile: &[u8], width: usize, height: usize, column: usize, row: usize) -> Checked
+    ensures { λ r. ⌜ r ≡ lowest (viewChecks (length (now (tile .entry))) width height column row) ⌝ }
+{
+    refusal::view(tile, width, height, column, row)
+}

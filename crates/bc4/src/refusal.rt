@@ -114,8 +114,9 @@ pub fn resend(samples: &[f32], held: &[u8], o: Options) -> Checked
     no_nan(samples)
 }
 
-pub fn tile(samples: &[f32], width: usize, height: usize, out: &[u8]) -> Checked
-    ensures { λ r. ⌜ r ≡ lowest (tileChecks (now (samples .entry)) width height (length (now (out .entry)))) ⌝ }
+// `room` is the length of the output.
+pub fn tile(samples: &[f32], width: usize, height: usize, room: usize) -> Checked
+    ensures { λ r. ⌜ r ≡ lowest (tileChecks (now (samples .entry)) width height room) ⌝ }
 {
     if tile::bad_size(width, height) {
         return Checked::Refused(Refusal::Size);
@@ -123,7 +124,7 @@ pub fn tile(samples: &[f32], width: usize, height: usize, out: &[u8]) -> Checked
     if samples.len() != width * height {
         return Checked::Refused(Refusal::SampleCount);
     }
-    if out.len() < width * height / 2 {
+    if room < width * height / 2 {
         return Checked::Refused(Refusal::OutputLength);
     }
     no_nan(samples)

@@ -1,16 +1,18 @@
 -- Laws of a list of 3-bit indexes, and of the eight bytes that hold it. Assumes nothing.
 use mathlib.Core.Path.{_≡_, refl, ap, _∙_}
-use mathlib.Core.List.{[], _∷_}
+use mathlib.Core.List.{List, [], _∷_}
 use mathlib.Core.Logic.{dite}
 use Prim.Native.Nat.{ℕ, zero, suc, _+_, _-_, _*_, _/_, _%_, _^_, _<_, _≤_}
-use native.Mathlib.Nat.{add-mul-div-right, div-eq-of-lt, div-lt-iff-lt-mul, div-one, lt-of-lt-of-le, mul-assoc}
+use native.Mathlib.Nat.{add-mul-div-right, div-eq-of-lt, div-lt-iff-lt-mul, div-one, lt-of-lt-of-le, mod-eq-of-lt, mul-assoc}
 use native.Mathlib.Numerals.{add-one}
 use native.Mathlib.Decide.{decLt}
 use native.Mathlib.Omega.{arith}
 use lib.Arith.{digits-lt}
+use lib.ListN.{length, drop, getD, drop-of-length-le}
+use lib.Seq.{drop-cons}
 use lib.Pow.{field, mod-mod-pow, mod-pow-add, pow-add, pow-mono, pow-pos, shr-shr}
 use Rattle.index_list.specs.Indexes.{indexAt, setAt, filledTo}
-use Rattle.index_list.specs.Layout.{byteAt, packed, bytesOf}
+use Rattle.index_list.specs.Layout.{byteAt, packed, bytesOf, fromBytes}
 
 -- setting adds v to the bits from pixel i up
 from : (d i v : ℕ) → setAt d i v / 2 ^ (3 * i) ≡ d / 2 ^ (3 * i) + v
@@ -114,3 +116,27 @@ byte-first d j m = rw (← shr-shr, mod-pow-add) (omega arith)
 pub bytes-48 : (d : ℕ)
     → byteAt d 0 + 2 ^ 8 * (byteAt d 1 + 2 ^ 8 * (byteAt d 2 + 2 ^ 8 * (byteAt d 3 + 2 ^ 8 * (byteAt d 4 + 2 ^ 8 * byteAt d 5)))) ≡ d % 2 ^ 48
 bytes-48 d = rw (byte-first d 32 8, byte-first d 24 16, byte-first d 16 24, byte-first d 8 32, byte-first d 0 40, div-one)
+
+-- ---- eight bytes and their number
+from-byte : (bs : List ℕ) (k : ℕ) → k < length bs → fromBytes (drop k bs) ≡ getD bs k 0 + 2 ^ 8 * fromBytes (drop (suc k) bs)
+unfolding fromBytes
+from-byte bs k h = rw (drop-cons bs k 0 h)
+
+from-none : (bs : List ℕ) (k : ℕ) → length bs ≤ k → fromBytes (drop k bs) ≡ 0
+unfolding fromBytes
+from-none bs k h = rw (drop-of-length-le bs h)
+
+-- in two halves of four
+pub from-eight : (bs : List ℕ) → length bs ≡ 8
+    → fromBytes bs ≡ getD bs 0 0 + 2 ^ 8 * (getD bs 1 0 + 2 ^ 8 * (getD bs 2 0 + 2 ^ 8 * getD bs 3 0))
+    + 2 ^ 32 * (getD bs 4 0 + 2 ^ 8 * (getD bs 5 0 + 2 ^ 8 * (getD bs 6 0 + 2 ^ 8 * getD bs 7 0)))
+from-eight bs e =
+    omega (arith, from-byte bs 0 (omega arith), from-byte bs 1 (omega arith), from-byte bs 2 (omega arith), from-byte bs 3 (omega arith), from-byte bs 4 (omega arith),
+    from-byte bs 5 (omega arith), from-byte bs 6 (omega arith), from-byte bs 7 (omega arith), from-none bs 8 (omega arith))
+
+-- The bytes of a number of 64 bits are its bytes.
+pub from-bytesOf : (n : ℕ) → n < 2 ^ 64 → fromBytes (bytesOf n) ≡ n
+unfolding fromBytes
+from-bytesOf n h =
+    let last : byteAt n 7 + 2 ^ 8 * 0 ≡ n / 2 ^ 56 % 2 ^ 8 = omega arith in
+    rw (last, byte-first n 48 8, byte-first n 40 16, byte-first n 32 24, byte-first n 24 32, byte-first n 16 40, byte-first n 8 48, byte-first n 0 56, div-one) (mod-eq-of-lt h)

@@ -17,3 +17,8 @@ packed c0 c1 d = c0 + 2 ^ 8 * c1 + 2 ^ 16 * (d % 2 ^ 48)
 -- the eight bytes in order
 abbrev pub bytesOf : ℕ → List ℕ
 bytesOf n = byteAt n 0 ∷ byteAt n 1 ∷ byteAt n 2 ∷ byteAt n 3 ∷ byteAt n 4 ∷ byteAt n 5 ∷ byteAt n 6 ∷ byteAt n 7 ∷ []
+
+-- the number of bytes in order
+unfoldable pub fromBytes : List ℕ → ℕ
+fromBytes [] = 0
+fromBytes (b ∷ bs) = b + 2 ^ 8 * fromBytes bs

@@ -1,8 +1,9 @@
 // bc4.rs: IndexList, and how a block's eight bytes hold it.
 ghost use mathlib.Core.Path.{_≡_};
 ghost use Prim.Native.Nat.{_<_};
+ghost use lib.ListN.{length};
 ghost use Rattle.index_list.specs.Indexes.{indexAt, setAt, filledTo};
-ghost use Rattle.index_list.specs.Layout.{packed as packedOf, bytesOf};
+ghost use Rattle.index_list.specs.Layout.{packed as packedOf, bytesOf, fromBytes};
 
 // Sixteen 3-bit indexes, pixel i at bit 3i.
 pub struct IndexList {
@@ -71,4 +72,20 @@ pub fn bytes(block: u64) -> [u8; 8]
         ((block >> 48) % 256) as u8,
         ((block >> 56) % 256) as u8,
     ]
+}
+
+fn wide(x: u8) -> u64
+    ensures { λ r. ⌜ (r ≡ x) × (r < 256) ⌝ }
+{
+    x as u64
+}
+
+// The number of eight bytes in order.
+pub fn from_bytes(b: &[u8]) -> u64
+    requires { ⌜ length (now b) ≡ 8 ⌝ }
+    ensures { λ r. ⌜ r ≡ fromBytes (now (b .entry)) ⌝ }
+{
+    let low = wide(b[0]) + 256 * (wide(b[1]) + 256 * (wide(b[2]) + 256 * wide(b[3])));
+    let high = wide(b[4]) + 256 * (wide(b[5]) + 256 * (wide(b[6]) + 256 * wide(b[7])));
+    low + 4294967296 * high
 }
