@@ -1,2 +1,4 @@
 pub mod Steps
 pub mod Middle
+pub mod EveryPair
+pub mod Covered

@@ -1,3 +1,4 @@
 pub mod Single
 pub mod Search
+pub mod Covered
 pub mod Encoder
