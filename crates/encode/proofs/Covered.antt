@@ -88,7 +88,8 @@ module _ (b : List Float) (u : InUnit b) where
 
   found-one : Found found
   found-one =
-      ⊎-elim (λ e. clash (below-inf 256 _ (search-finite Six 0 255 covered-some)) (subst (NotBelow (pairError Six b 0 255)) e (found-below Six 0 255 covered-some)))
+      ⊎-elim
+      (λ e. clash (below-inf 256 _ (search-finite Six 0 255 covered-some)) (subst (NotBelow (pairError Six b 0 255)) e (found-below Six 0 255 covered-some)))
       (λ f. f)
       (mins-keep b (λ h. (h ≡ start) ⊎ Found h) (leastMax (smallest b)) (minLimit (largest b)) tried start (inl refl))
     where
@@ -97,7 +98,8 @@ module _ (b : List Float) (u : InUnit b) where
       tried h min max l f t p =
           let g = first-from (leastMax (smallest b)) min max f in
           let c : Covered b min max = record { min-below = l; max-from = g .0; apart = g .1; max-to = t } in
-          let one : (kind : Kind) → Found (candidate b kind min max) = λ kind. (record { kind = kind; min = min; max = max; covered = c; bytes = refl }, refl) in
+          let one : (kind : Kind) → Found (candidate b kind min max) =
+          λ kind. (record { kind = kind; min = min; max = max; covered = c; bytes = refl }, refl) in
           let six = kept-one (λ k. (k ≡ start) ⊎ Found k) h (candidate b Six min max) p (inr (one Six)) in
           rw (pair-is b h min max) (kept-one (λ k. (k ≡ start) ⊎ Found k) _ (candidate b Four min max) six (inr (one Four)))
 
@@ -112,8 +114,11 @@ module _ (b : List Float) where
   pair-ends Six min max c = packed-ends max min _ (omega (arith, c .max-to)) (omega (arith, c .max-to, c .apart))
   pair-ends Four min max c = packed-ends min max _ (omega (arith, c .max-to, c .apart)) (omega (arith, c .max-to))
 
-  pub written-ends : (n : ℕ) (w : Written b n) → (byteAt n 0 ≡ endsOf (w .kind) (w .min) (w .max) .c0) × (byteAt n 1 ≡ endsOf (w .kind) (w .min) (w .max) .c1)
-  written-ends n w = let e = pair-ends (w .kind) (w .min) (w .max) (w .covered) in (ap (λ (m : ℕ). byteAt m 0) (w .bytes) ∙ e .0, ap (λ (m : ℕ). byteAt m 1) (w .bytes) ∙ e .1)
+  pub written-ends : (n : ℕ) (w : Written b n)
+      → (byteAt n 0 ≡ endsOf (w .kind) (w .min) (w .max) .c0) × (byteAt n 1 ≡ endsOf (w .kind) (w .min) (w .max) .c1)
+  written-ends n w =
+      let e = pair-ends (w .kind) (w .min) (w .max) (w .covered) in
+      (ap (λ (m : ℕ). byteAt m 0) (w .bytes) ∙ e .0, ap (λ (m : ℕ). byteAt m 1) (w .bytes) ∙ e .1)
 
   ends-error : (k l : Kind) (i j m n : ℕ) → i < j → m < n → endsOf k i j .c0 ≡ endsOf l m n .c0 → endsOf k i j .c1 ≡ endsOf l m n .c1
       → pairError k b i j ≡ pairError l b m n
@@ -127,7 +132,8 @@ module _ (b : List Float) where
   written-error n v w =
       let e = written-ends n v in
       let f = written-ends n w in
-      ends-error (v .kind) (w .kind) (v .min) (v .max) (w .min) (w .max) (v .covered .apart) (w .covered .apart) (sym (e .0) ∙ f .0) (sym (e .1) ∙ f .1)
+      ends-error (v .kind) (w .kind) (v .min) (v .max) (w .min) (w .max) (v .covered .apart) (w .covered .apart)
+      (sym (e .0) ∙ f .0) (sym (e .1) ∙ f .1)
 
 module _ (b : List Float) (u : InUnit b) where
   -- The search writes a covered pair in one of the modes,

@@ -85,7 +85,7 @@ module _ (b : List Float) where
   unfolding minsTried
   mins-keep P least zero keep best p = p
   mins-keep P least (suc n) keep best p =
-      maxes-keep P n (firstMax least n) (256 - firstMax least n) (λ h max l m. keep h n max (omega arith) l (omega arith)) _
+      maxes-keep P n (firstMax least n) _ (λ h max l m. keep h n max (omega arith) l (omega arith)) _
       (mins-keep P least n (λ h min max l. keep h min max (omega arith)) best p)
 
   -- and what one pair brings about, the others keeping it, holds in the end
@@ -103,4 +103,4 @@ module _ (b : List Float) where
     mins-reach best least zero h l m = absurd (omega arith)
     mins-reach best least (suc n) h l m =
         dite (decLt min n) (λ k. maxes-keep P n _ _ (λ g max i j. keep g n max) _ (mins-reach best least n k l m))
-        (λ k. let e : n ≡ min = omega arith in rw e (maxes-reach (firstMax least min) (256 - firstMax least min) _ l (omega arith)))
+        (λ k. let e : n ≡ min = omega arith in rw e (maxes-reach (firstMax least min) _ _ l (omega arith)))
