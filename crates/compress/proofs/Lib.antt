@@ -1,3 +1,4 @@
 pub mod Places
+pub mod AfterEntry
 pub mod Counting
 pub mod SortedSixteen

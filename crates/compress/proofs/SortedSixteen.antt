@@ -9,13 +9,13 @@ use native.Mathlib.Omega.{arith}
 use borrow.Author.Tests.{lt-ltb, le-ltb, ltb-true, ltb-false}
 use lib.Dec.{ltb}
 use lib.Ieee.{Float, nan, lt, le, ne, isNan}
-use Rattle.floats.specs.Arithmetic.{f0, f1}
-use Rattle.floats.specs.Helpers.{laneMin, laneMax, minOf, entryClamp}
+use Rattle.floats.specs.Arithmetic.{f1}
+use Rattle.floats.specs.Helpers.{minOf}
 use Rattle.floats.proofs.Tests.{clash, either}
-use Rattle.floats.proofs.Order.{lt-of-not, le-left, le-of-lt, le-of-not, le-refl, le-trans, ne-self, not-of-le}
+use Rattle.floats.proofs.Order.{lt-of-not, le-left, le-of-lt, le-of-not, le-refl, le-trans, ne-self}
 use Rattle.floats.proofs.Ranges.{real-1}
 use Rattle.block.specs.Samples.{pixelAt, perPixel}
-use Rattle.block.specs.Block.{entered, InUnit}
+use Rattle.block.specs.Block.{InUnit}
 use Rattle.block.proofs.Fill.{getD-tabulate}
 use Rattle.compress.specs.Sorted.{countTo, notAbove, placedTo, placed, placeOf}
 use Rattle.compress.proofs.Counting.{up-to, count-mono, count-lt, count-some, count-none, count-all, count-le, Top, top}
@@ -35,7 +35,7 @@ min-picks Q x y p q = go (lt y x || ne x x)
     go true = q
     go false = p
 
--- where x is no NaN it is what Vec4::min gives
+-- at most either, where neither is a NaN
 min-le : (x y : Float) → isNan x ≡ false → isNan y ≡ false → (le (minOf x y) x ≡ true) × (le (minOf x y) y ≡ true)
 min-le x y p q = rw (ne-self x, p) (go (lt y x) refl)
   where
@@ -121,7 +121,7 @@ module _ (b : List Float) where
     pub placed-count : (x : Float) → notAbove (perPixel (placed b)) x ≡ notAbove b x
     placed-count x = omega (arith, count-le b x 16, places-counted x 16 (omega arith))
 
-    -- and each is a sample, where a sample that is not below 1 is 1 itself.
+    -- and each is a sample, where a sample that is not below 1 is 1 itself, as after entry (`entered-one`).
     pub placed-is-sample : ((i : ℕ) → i < 16 → le f1 (pixelAt b i) ≡ true → pixelAt b i ≡ f1) → (k : ℕ) → k < 16
         → (i : ℕ) × (i < 16) × (placed b k ≡ pixelAt b i)
     placed-is-sample one k h =
@@ -157,16 +157,11 @@ module _ (b : List Float) where
               (either (le x y)),
         )
 
--- Entry leaves no other float that is not below 1.
-pub entered-one : (s : List Float) (i : ℕ) → i < 16 → le f1 (pixelAt (entered s) i) ≡ true → pixelAt (entered s) i ≡ f1
-unfolding entered
-entered-one s i h e =
-    let is = getD-tabulate (λ (k : ℕ). entryClamp (pixelAt s k)) nan 16 i h in
-    is ∙ go (laneMax (pixelAt s i) f0) (rw is at e)
-  where
-    go : (y : Float) → le f1 (laneMin y f1) ≡ true → laneMin y f1 ≡ f1
-    go y k = pick (lt y f1) refl k
-      where
-        pick : (t : Bool) → lt y f1 ≡ t → le f1 (cond t y f1) ≡ true → cond t y f1 ≡ f1
-        pick true e k = clash e (not-of-le f1 y k)
-        pick false e k = refl
+    -- Where equal samples are identical, as after entry (`entered-identical`), that is the sample itself.
+    pub placeOf-is : ((i : ℕ) → i < 16 → le f1 (pixelAt b i) ≡ true → pixelAt b i ≡ f1)
+        → ((i j : ℕ) → i < 16 → j < 16 → le (pixelAt b i) (pixelAt b j) ≡ true → le (pixelAt b j) (pixelAt b i) ≡ true → pixelAt b i ≡ pixelAt b j)
+        → (i : ℕ) → i < 16 → placed b (placeOf b (pixelAt b i)) ≡ pixelAt b i
+    placeOf-is one same i h =
+        let e = placeOf-equal i h in
+        let t = placed-is-sample one (placeOf b (pixelAt b i)) (omega (arith, count-le b (pixelAt b i) 16)) in
+        t .2 ∙ same (t .0) i (t .1) h (rw (t .2) at (e .0)) (rw (t .2) at (e .1))
