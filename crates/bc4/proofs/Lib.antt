@@ -1,2 +1,3 @@
 pub mod Nans
 pub mod Lowest
+pub mod Views

@@ -117,7 +117,13 @@ fn better(b: &[f32; 16], held: u64, o: Options) -> Held
 }
 
 // The blocks of a tile, row by row from the top left, into the first width * height / 2 bytes of `out`. Later bytes stay.
-pub fn encode_tile(samples: &[f32], width: usize, height: usize, o: Options, out: &mut [u8]) -> Tiled
+pub fn encode_tile(
+    samples: &[f32],
+    width: usize,
+    height: usize,
+    o: Options,
+    out: &mut [u8],
+) -> Tiled
     ensures answer { λ r. ⌜ r ≡ tileAnswer (now (samples .entry)) width height (length (now (out .entry))) ⌝ }
     ensures bytes { λ r. ⌜ now (out .exit) ≡ outAfter r (now (samples .entry)) width height o (now (out .entry)) ⌝ }
 {

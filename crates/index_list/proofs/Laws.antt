@@ -131,8 +131,18 @@ pub from-eight : (bs : List ℕ) → length bs ≡ 8
     → fromBytes bs ≡ getD bs 0 0 + 2 ^ 8 * (getD bs 1 0 + 2 ^ 8 * (getD bs 2 0 + 2 ^ 8 * getD bs 3 0))
     + 2 ^ 32 * (getD bs 4 0 + 2 ^ 8 * (getD bs 5 0 + 2 ^ 8 * (getD bs 6 0 + 2 ^ 8 * getD bs 7 0)))
 from-eight bs e =
-    omega (arith, from-byte bs 0 (omega arith), from-byte bs 1 (omega arith), from-byte bs 2 (omega arith), from-byte bs 3 (omega arith), from-byte bs 4 (omega arith),
-    from-byte bs 5 (omega arith), from-byte bs 6 (omega arith), from-byte bs 7 (omega arith), from-none bs 8 (omega arith))
+    omega (
+      arith,
+      from-byte bs 0 (omega arith),
+      from-byte bs 1 (omega arith),
+      from-byte bs 2 (omega arith),
+      from-byte bs 3 (omega arith),
+      from-byte bs 4 (omega arith),
+      from-byte bs 5 (omega arith),
+      from-byte bs 6 (omega arith),
+      from-byte bs 7 (omega arith),
+      from-none bs 8 (omega arith),
+    )
 
 -- The bytes of a number of 64 bits are its bytes.
 pub from-bytesOf : (n : ℕ) → n < 2 ^ 64 → fromBytes (bytesOf n) ≡ n

@@ -4,8 +4,9 @@ use mathlib.Core.Bool.{Bool, true, false, _||_}
 use Prim.Native.Nat.{ℕ, _+_, _*_, _%_, _<_, _≤_}
 use native.Mathlib.Nat.{mul-le-mul, mul-le-mul-right, mul-comm, mul-left-comm, mul-mul-mul-comm, suc-mul}
 use native.Mathlib.Omega.{arith}
-use borrow.Author.Tests.{ltb-false, eqb-false, eqb-true, not-false}
-use Rattle.tile.specs.Place.{longestSide, badSide, badSize, along, rowLength, encodedLength, blockAt}
+use lib.Dec.{leb}
+use borrow.Author.Tests.{ltb-false, leb-false, eqb-false, eqb-true, not-false}
+use Rattle.tile.specs.Place.{longestSide, badSide, badSize, along, rowLength, encodedLength, noBlock, blockAt}
 
 pub neither : (a b : Bool) → a || b ≡ false → (a ≡ false) × (b ≡ false)
 neither true b h = absurd (let z : _≡_ {A = ℕ} 0 1 = cc in omega arith)
@@ -57,3 +58,9 @@ block-apart width column row column′ row′ h h′ p q =
     let below : row′ < row → ⊥ = λ l. omega (arith, fits row′ row (along width) l) in
     let same : row ≡ row′ = omega arith in
     (omega (arith, ap (λ (r : ℕ). r * along width) same), same)
+
+-- a block that is asked for and stands in the tile
+pub block-there : (width height column row : ℕ) → noBlock width height column row ≡ false → (column < along width) × (row < along height)
+block-there width height column row e =
+    let both = neither (leb (along width) column) (leb (along height) row) e in
+    (leb-false (along width) column (both .0), leb-false (along height) row (both .1))

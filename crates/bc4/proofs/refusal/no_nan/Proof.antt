@@ -10,11 +10,11 @@ first-nan-requires c κs = search needs
 
 returns : tie.Need-returns
 unfolding lowest
-returns c = rw (← c .before .before .first-nan .ensures, lt-ltb _ _ (c .if1 .taken))
+returns c = rw (← c .before .first-nan .ensures, lt-ltb _ _ (c .if1 .taken))
 
 returns-2 : tie.Need-returns-2
 unfolding lowest
-returns-2 c = rw (← c .before .before .first-nan .ensures, le-ltb _ _ (c .if1 .left))
+returns-2 c = rw (← c .before .first-nan .ensures, le-ltb _ _ (c .if1 .left))
 
 pub no-nan-spec : {M : Type 1} → statement M
 no-nan-spec = tie.close (tie.spec first-nan-requires returns returns-2)

@@ -1,0 +1,95 @@
+-- `block_view` meets its contract. Assumes nothing.
+use mathlib.Core.Path.{_≡_, sym, _∙_}
+use Prim.Native.Nat.{_+_, _-_}
+use native.Mathlib.Omega.{arith}
+use Rattle.tile.specs.Place.{blockAt}
+use Rattle.bc4.specs.Calls.{viewOn}
+use Rattle.bc4.proofs.Views.{view-room}
+use borrow.Author.Needs.{needs}
+use Rattle.bc4.proofs.block_view.Statement.{statement}
+use Rattle.bc4.proofs.block_view.Tie as tie
+
+view-refusal-requires : tie.Need-view-refusal-requires
+view-refusal-requires c κs = search needs
+
+enum-told : tie.Need-enum-told
+enum-told c = search needs
+
+sub-result : tie.Need-sub-result
+sub-result c = search needs
+
+part-result-start : tie.Need-part-result-start
+part-result-start c = search needs
+
+part-result-end : tie.Need-part-result-end
+part-result-end c = search needs
+
+enum-told-2 : tie.Need-enum-told-2
+enum-told-2 c = search needs
+
+mul-at : tie.Need-mul-at
+mul-at c =
+    let a = c .before .before .before .before .args in
+    let room = view-room (a .tile .now) (a .width) (a .height) (a .column) (a .row) (sym (c .before .before .view-refusal .ensures) ∙ c .enum-told2 .given .1) in
+    search needs
+
+add-at : tie.Need-add-at
+add-at c =
+    let a = c .before .before .before .before .args in
+    let room = view-room (a .tile .now) (a .width) (a .height) (a .column) (a .row) (sym (c .before .before .view-refusal .ensures) ∙ c .enum-told2 .given .1) in
+    search needs
+
+mul-at-2 : tie.Need-mul-at-2
+mul-at-2 c =
+    let a = c .before .before .before .before .args in
+    let room = view-room (a .tile .now) (a .width) (a .height) (a .column) (a .row) (sym (c .before .before .view-refusal .ensures) ∙ c .enum-told2 .given .1) in
+    search needs
+
+add-result : tie.Need-add-result
+add-result c =
+    let a = c .before .before .before .before .args in
+    let room = view-room (a .tile .now) (a .width) (a .height) (a .column) (a .row) (sym (c .before .before .view-refusal .ensures) ∙ c .enum-told2 .given .1) in
+    search needs
+
+sub-result-2 : tie.Need-sub-result-2
+sub-result-2 c = search needs
+
+part-result-start-2 : tie.Need-part-result-start-2
+part-result-start-2 c = search needs
+
+part-result-end-2 : tie.Need-part-result-end-2
+part-result-end-2 c =
+    let a = c .before .before .before .before .args in
+    let room = view-room (a .tile .now) (a .width) (a .height) (a .column) (a .row) (sym (c .before .before .view-refusal .ensures) ∙ c .enum-told2 .given .1) in
+    search needs
+
+returns : tie.Need-returns
+unfolding viewOn
+returns c = rw (← c .before .before .before .view-refusal .ensures, c .before .enum-told .given .1)
+
+returns-2 : tie.Need-returns-2
+unfolding viewOn
+returns-2 c =
+    let at = blockAt (c .before .before .before .before .before .args .width) (c .before .before .before .before .before .args .column) (c .before .before .before .before .before .args .row) in
+    let eight : at + 8 - at ≡ 8 = omega arith in
+    rw (← c .before .before .before .view-refusal .ensures, c .before .enum-told2 .given .1, eight)
+
+pub block-view-spec : {M : Type 1} → statement M
+block-view-spec =
+    tie.close
+    (tie.spec
+    view-refusal-requires
+    enum-told
+    sub-result
+    part-result-start
+    part-result-end
+    enum-told-2
+    mul-at
+    add-at
+    mul-at-2
+    add-result
+    sub-result-2
+    part-result-start-2
+    part-result-end-2
+    returns
+    returns-2)
