@@ -2,13 +2,14 @@
 use mathlib.Core.Path.{_≡_, refl, sym, subst}
 use mathlib.Core.Bool.{Bool, true, false, not, cond}
 use mathlib.Core.List.{List, [], _∷_, _++_}
-use Prim.Native.Nat.{ℕ}
-use lib.Dec.{T, eqb, eqb→eq}
+use Prim.Native.Nat.{ℕ, _<_}
+use lib.Dec.{T, eqb, eqb→eq, lit<}
 use borrow.Author.Tests.{not-false}
 use Rattle.bc4.specs.declared.refusal.Refusal.{Refusal}
+use Rattle.bc4.specs.declared.refusal.Refusal.the-variants.{Size, SampleCount, EncodedLength, OutputLength, DitheredResend, NoSuchBlock, SampleIsNan, WordMalformed}
 use Rattle.bc4.specs.declared.refusal.Checked.{Checked}
 use Rattle.bc4.specs.declared.refusal.Checked.the-variants.{Passed, Refused}
-use Rattle.bc4.specs.Refusals.{Check, lowest}
+use Rattle.bc4.specs.Refusals.{numberOf, Check, when, lowest, orMalformed}
 
 abbrev refuses : Checked → Type 0
 refuses Passed = ⊥
@@ -16,28 +17,6 @@ refuses (Refused q) = Unit {0}
 
 apart : {q : Refusal} → Refused q ≡ Passed → ⊥
 apart e = subst refuses e tt
-
--- Where the first checks pass the others decide,
-pub lowest-after : (cs ds : List Check) → lowest cs ≡ Passed → lowest (cs ++ ds) ≡ lowest ds
-unfolding lowest
-lowest-after [] ds e = refl
-lowest-after (c ∷ cs) ds e = go (c .applies) (lowest-after cs ds) e
-  where
-    go : (t : Bool) → (lowest cs ≡ Passed → lowest (cs ++ ds) ≡ lowest ds) → cond t (Refused (c .refusal)) (lowest cs) ≡ Passed
-        → cond t (Refused (c .refusal)) (lowest (cs ++ ds)) ≡ lowest ds
-    go true rest e = absurd (apart e)
-    go false rest e = rest e
-
--- and where one refuses the others do not count.
-pub lowest-first : (cs ds : List Check) (q : Refusal) → lowest cs ≡ Refused q → lowest (cs ++ ds) ≡ Refused q
-unfolding lowest
-lowest-first [] ds q e = absurd (apart (sym e))
-lowest-first (c ∷ cs) ds q e = go (c .applies) (lowest-first cs ds q) e
-  where
-    go : (t : Bool) → (lowest cs ≡ Refused q → lowest (cs ++ ds) ≡ Refused q) → cond t (Refused (c .refusal)) (lowest cs) ≡ Refused q
-        → cond t (Refused (c .refusal)) (lowest (cs ++ ds)) ≡ Refused q
-    go true rest e = e
-    go false rest e = rest e
 
 -- no check applies
 abbrev pub Clear : List Check → Type 0
@@ -56,3 +35,25 @@ lowest-clear (c ∷ cs) e = go (c .applies) refl e (lowest-clear cs)
 -- two lengths that a check found equal
 pub same-of : (a b : ℕ) → not (eqb a b) ≡ false → a ≡ b
 same-of a b e = eqb→eq a b (subst T (sym (not-false (eqb a b) e)) tt)
+
+-- a number has one digit
+pub number-small : (q : Refusal) → numberOf q < 10
+number-small Size = lit< tt
+number-small SampleCount = lit< tt
+number-small EncodedLength = lit< tt
+number-small OutputLength = lit< tt
+number-small DitheredResend = lit< tt
+number-small NoSuchBlock = lit< tt
+number-small (SampleIsNan i) = lit< tt
+number-small WordMalformed = lit< tt
+
+-- A malformed word is one check more, after all others.
+pub malformed-last : (cs : List Check) → lowest (cs ++ when WordMalformed true ∷ []) ≡ Refused (orMalformed (lowest cs))
+unfolding lowest orMalformed
+malformed-last [] = refl
+malformed-last (c ∷ cs) = go (c .applies) (malformed-last cs)
+  where
+    go : (t : Bool) → lowest (cs ++ when WordMalformed true ∷ []) ≡ Refused (orMalformed (lowest cs))
+        → cond t (Refused (c .refusal)) (lowest (cs ++ when WordMalformed true ∷ [])) ≡ Refused (orMalformed (cond t (Refused (c .refusal)) (lowest cs)))
+    go true rest = refl
+    go false rest = rest

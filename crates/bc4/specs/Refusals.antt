@@ -1,7 +1,7 @@
 -- Document 01, "Calls and numbers": the refusals, their numbers, and what each call checks. Checks run in number order; the lowest that applies
 -- is the answer.
 use mathlib.Core.Bool.{Bool, not, cond}
-use mathlib.Core.List.{List, [], _∷_, _++_}
+use mathlib.Core.List.{List, [], _∷_}
 use Prim.Native.Nat.{ℕ, suc, _*_}
 use lib.Dec.{ltb, eqb}
 use lib.ListN.{length}
@@ -63,9 +63,6 @@ placeCheck width height column row = when NoSuchBlock (noBlock width height colu
 abbrev pub nanCheck : List Float → Check
 nanCheck samples = when (SampleIsNan (firstNan samples)) (ltb (firstNan samples) (length samples))
 
-abbrev pub wordCheck : Bool → Check
-wordCheck malformed = when WordMalformed malformed
-
 -- ---- the checks of each call
 abbrev pub encodeChecks : List Float → List Check
 encodeChecks samples = countCheck samples 16 ∷ nanCheck samples ∷ []
@@ -89,6 +86,7 @@ abbrev pub viewChecks : ℕ → ℕ → ℕ → ℕ → ℕ → List Check
 viewChecks long width height column row =
     sizeCheck width height ∷ lengthCheck long (encodedLength width height) ∷ placeCheck width height column row ∷ []
 
--- of a record of the program: those of the block call, then its word
-abbrev pub recordChecks : List Float → Bool → List Check
-recordChecks samples malformed = encodeChecks samples ++ wordCheck malformed ∷ []
+-- of a record of the program whose word is malformed: 8 comes after what the block call refuses
+unfoldable pub orMalformed : Checked → Refusal
+orMalformed Passed = WordMalformed
+orMalformed (Refused q) = q

@@ -2,7 +2,7 @@
 ghost use mathlib.Core.Path.{_≡_};
 ghost use mathlib.Core.List.{[], _∷_};
 ghost use lib.ListN.{length};
-ghost use Rattle.bc4.specs.Refusals.{numberOf, lowest, firstNan, sizeCheck, countCheck, lengthCheck, roomCheck, ditherCheck, placeCheck, nanCheck, encodeChecks, decodeChecks, errorChecks, resendChecks, tileChecks, viewChecks, recordChecks};
+ghost use Rattle.bc4.specs.Refusals.{numberOf, lowest, orMalformed, firstNan, nanCheck, encodeChecks, decodeChecks, errorChecks, resendChecks, tileChecks, viewChecks};
 use refine::options::Options;
 
 pub enum Refusal {
@@ -145,18 +145,13 @@ pub fn view(tile: &[u8], width: usize, height: usize, column: usize, row: usize)
     Checked::Passed
 }
 
-// Of a record of the program, whose word comes last.
-pub fn record(samples: &[f32], malformed: bool) -> Checked
-    ensures { λ r. ⌜ r ≡ lowest (recordChecks (now (samples .entry)) malformed) ⌝ }
+// Of a record of the program whose word is malformed: what the block call refuses comes first.
+pub fn malformed(samples: &[f32]) -> Refusal
+    ensures { λ r. ⌜ r ≡ orMalformed (lowest (encodeChecks (now (samples .entry)))) ⌝ }
 {
     let checked = encode(samples);
     match checked {
-        Checked::Refused(q) => Checked::Refused(q),
-        Checked::Passed => {
-            if malformed {
-                return Checked::Refused(Refusal::WordMalformed);
-            }
-            Checked::Passed
-        }
+        Checked::Refused(q) => q,
+        Checked::Passed => Refusal::WordMalformed,
     }
 }

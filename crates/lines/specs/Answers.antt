@@ -1,29 +1,30 @@
--- What the program answers. Document 01, "The program": refusal 7 before refusal 8, else the block; one line per record.
+-- What the program answers. Document 01, "The program": the block call's answer, one line per record; a malformed word is refusal 8, after 7.
 use mathlib.Core.Path.{_≡_}
 use mathlib.Core.List.{List, [], _++_}
 use mathlib.Core.Bool.{cond}
 use Prim.Native.Nat.{ℕ, zero, suc, _*_, _/_, _%_, _≤_}
 use lib.Dec.{eqb}
 use lib.ListN.{length, take, drop}
-use Rattle.encode.specs.Encoder.{compressed}
-use Rattle.lines.specs.declared.Answer.{Answer}
-use Rattle.lines.specs.declared.Answer.the-variants.{Block, SampleIsNan, WordMalformed}
+use lib.Ieee.{Float}
+use Rattle.bc4.specs.declared.Encoded.{Encoded}
+use Rattle.bc4.specs.declared.Encoded.the-variants.{Block, Refused}
+use Rattle.bc4.specs.Refusals.{numberOf, lowest, encodeChecks, orMalformed}
+use Rattle.bc4.specs.Calls.{encodeAnswer}
 use Rattle.lines.specs.declared.input.Word.{Word}
 use Rattle.lines.specs.declared.input.Word.the-variants.{Formed, Malformed}
-use Rattle.lines.specs.Input.{wordOf, nanBefore, samplesOf}
+use Rattle.lines.specs.Input.{wordOf, samplesOf}
 use Rattle.lines.specs.Output.{hexLine, refusedLine, shortLine}
 
-unfoldable pub byWord : List ℕ → Word → Answer
-byWord bytes (Formed o) = Block (compressed (samplesOf bytes) o)
-byWord bytes Malformed = WordMalformed
+unfoldable pub byWord : List Float → Word → Encoded
+byWord samples (Formed o) = encodeAnswer samples o
+byWord samples Malformed = Refused (orMalformed (lowest (encodeChecks samples)))
 
-unfoldable pub answerOf : List ℕ → Answer
-answerOf bytes = cond (nanBefore bytes 16) SampleIsNan (byWord bytes (wordOf bytes))
+abbrev pub answerOf : List ℕ → Encoded
+answerOf bytes = byWord (samplesOf bytes) (wordOf bytes)
 
-unfoldable pub lineOf : Answer → List ℕ
+unfoldable pub lineOf : Encoded → List ℕ
 lineOf (Block b) = hexLine b
-lineOf SampleIsNan = refusedLine 7
-lineOf WordMalformed = refusedLine 8
+lineOf (Refused q) = refusedLine (numberOf q)
 
 -- record i of the input
 abbrev pub recordAt : List ℕ → ℕ → List ℕ

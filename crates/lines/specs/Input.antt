@@ -6,11 +6,11 @@
 --   bytes 4..67  sixteen f32, little-endian
 -- Any other value of bytes 2 and 3 makes the word malformed.
 use mathlib.Core.List.{List}
-use mathlib.Core.Bool.{Bool, false, cond, _||_}
-use Prim.Native.Nat.{ℕ, zero, suc, _+_, _*_, _/_, _%_, _^_}
+use mathlib.Core.Bool.{Bool, cond}
+use Prim.Native.Nat.{ℕ, _+_, _*_, _/_, _%_, _^_}
 use lib.Dec.{eqb}
 use lib.ListN.{getD}
-use lib.Ieee.{Float, binary32, ofBits, nanBits}
+use lib.Ieee.{Float, binary32, ofBits}
 use Rattle.block.specs.Samples.{perPixel}
 use Rattle.refine.specs.declared.options.Options.{Options}
 use Rattle.refine.specs.declared.options.Quantization.{Quantization}
@@ -60,11 +60,6 @@ fourBytes bytes at = byteAt bytes at + 2 ^ 8 * (byteAt bytes (at + 1) + 2 ^ 8 * 
 -- the bits of sample i
 abbrev pub patternAt : List ℕ → ℕ → ℕ
 patternAt bytes i = fourBytes bytes (4 + 4 * i)
-
--- whether one of the first n samples is NaN
-unfoldable pub nanBefore : List ℕ → ℕ → Bool
-nanBefore bytes zero = false
-nanBefore bytes (suc n) = nanBefore bytes n || nanBits binary32 (patternAt bytes n)
 
 unfoldable pub samplesOf : List ℕ → List Float
 samplesOf bytes = perPixel (λ i. ofBits binary32 (patternAt bytes i))

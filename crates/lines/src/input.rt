@@ -1,10 +1,9 @@
 // Document 01, "The program": what stands in a record of 68 bytes.
 ghost use mathlib.Core.Path.{_≡_};
-ghost use mathlib.Core.Bool.{false};
 ghost use Prim.Native.Nat.{_+_, _<_, _≤_};
 ghost use lib.ListN.{length};
-ghost use lib.Ieee.{binary32, nanBits};
-ghost use Rattle.lines.specs.Input.{optionsOf, wordOf, fourBytes, patternAt, nanBefore, samplesOf};
+ghost use lib.Ieee.{binary32, ofBits};
+ghost use Rattle.lines.specs.Input.{optionsOf, wordOf, fourBytes, patternAt, samplesOf};
 use refine::options::Options;
 use refine::options::Quantization;
 
@@ -76,31 +75,23 @@ fn pattern(bytes: &[u8], i: usize) -> u32
     four_bytes(bytes, 4 + 4 * i)
 }
 
-fn is_nan(n: u32) -> bool
-    ensures { λ r. ⌜ r ≡ nanBits binary32 n ⌝ }
+// A NaN is made by a division: `from_bits` is not defined at its bits.
+fn float_of(n: u32) -> f32
+    ensures { λ r. ⌜ r ≡ ofBits binary32 n ⌝ }
 {
-    n % 0x8000_0000 > 0x7f80_0000
-}
-
-pub fn has_nan(bytes: &[u8]) -> bool
-    requires { ⌜ length (now bytes) ≡ 68 ⌝ }
-    ensures { λ r. ⌜ r ≡ nanBefore (now (bytes .entry)) 16 ⌝ }
-{
-    let mut found = false;
-    for i in 0..16usize {
-        found = found | is_nan(pattern(bytes, i));
+    if n % 0x8000_0000 > 0x7f80_0000 {
+        return 0.0 / 0.0;
     }
-    found
+    f32::from_bits(n)
 }
 
-// A caller looks for NaN first: `from_bits` is not defined at a NaN's bits.
 pub fn samples(bytes: &[u8]) -> [f32; 16]
-    requires { ⌜ (length (now bytes) ≡ 68) × (nanBefore (now bytes) 16 ≡ false) ⌝ }
+    requires { ⌜ length (now bytes) ≡ 68 ⌝ }
     ensures { λ r. ⌜ r ≡ samplesOf (now (bytes .entry)) ⌝ }
 {
     let mut b = [0.0f32; 16];
     for i in 0..16usize {
-        b[i] = f32::from_bits(pattern(bytes, i));
+        b[i] = float_of(pattern(bytes, i));
     }
     b
 }

@@ -9,41 +9,29 @@ ghost use Rattle.lines.specs.Output.{Holds};
 pub mod input;
 mod output;
 
+use bc4::Encoded;
 use input::Word;
 use output::Line;
 
-// What a record is answered: eight bytes, byte 0 lowest, or a number of document 01's table of refusals.
-pub enum Answer {
-    Block(u64),
-    SampleIsNan,
-    WordMalformed,
-}
-
-// NaN is looked for before the word is: the lowest number that applies is the answer.
-pub fn answer_to(bytes: &[u8]) -> Answer
+// Whatever the word is, a sample that is NaN comes before it.
+pub fn answer_to(bytes: &[u8]) -> Encoded
     requires { ⌜ length (now bytes) ≡ 68 ⌝ }
     ensures { λ r. ⌜ r ≡ answerOf (now (bytes .entry)) ⌝ }
 {
-    if input::has_nan(bytes) {
-        return Answer::SampleIsNan;
-    }
+    let samples = input::samples(bytes);
     let word = input::read_word(bytes);
     match word {
-        Word::Malformed => Answer::WordMalformed,
-        Word::Formed(o) => {
-            let samples = input::samples(bytes);
-            Answer::Block(encode::compress_bc4_block(&samples, o))
-        }
+        Word::Malformed => Encoded::Refused(bc4::refusal::malformed(&samples)),
+        Word::Formed(o) => bc4::encode_block(&samples, o),
     }
 }
 
-fn line(answer: Answer) -> Line
+fn line(answer: Encoded) -> Line
     ensures { λ r. ⌜ Holds r (lineOf answer) ⌝ }
 {
     match answer {
-        Answer::Block(block) => output::hex(block),
-        Answer::SampleIsNan => output::refused(7),
-        Answer::WordMalformed => output::refused(8),
+        Encoded::Block(block) => output::hex(block),
+        Encoded::Refused(q) => output::refused(bc4::refusal::number(q)),
     }
 }
 

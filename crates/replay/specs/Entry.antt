@@ -4,8 +4,8 @@ use mathlib.Core.Bool.{Bool, true, not, cond}
 use Prim.Native.Nat.{ℕ, zero, suc, _+_, _*_, _/_, _^_}
 use lib.Dec.{eqb}
 use lib.ListN.{length, take, drop}
-use Rattle.lines.specs.declared.Answer.{Answer}
-use Rattle.lines.specs.declared.Answer.the-variants.{Block, SampleIsNan, WordMalformed}
+use Rattle.bc4.specs.declared.Encoded.{Encoded}
+use Rattle.bc4.specs.declared.Encoded.the-variants.{Block, Refused}
 use Rattle.lines.specs.Input.{fourBytes}
 use Rattle.replay.specs.declared.Tally.{Tally}
 use Rattle.lines.specs.Answers.{answerOf}
@@ -14,10 +14,9 @@ use Rattle.lines.specs.Answers.{answerOf}
 abbrev pub rustOf : List ℕ → ℕ
 rustOf entry = fourBytes entry 68 + 2 ^ 32 * fourBytes entry 72
 
-unfoldable pub unlike : Answer → ℕ → Bool
+unfoldable pub unlike : Encoded → ℕ → Bool
 unlike (Block b) rust = not (eqb b rust)
-unlike SampleIsNan rust = true
-unlike WordMalformed rust = true
+unlike (Refused q) rust = true
 
 unfoldable pub differsOf : List ℕ → Bool
 differsOf entry = unlike (answerOf (take 68 entry)) (rustOf entry)

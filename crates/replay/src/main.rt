@@ -4,9 +4,9 @@ ghost use mathlib.Core.Path.{_≡_};
 ghost use Prim.Native.Nat.{_+_, _*_, _≤_, _<_};
 ghost use lib.ListN.{length};
 ghost use Rattle.replay.specs.Entry.{differsOf, tallied};
+use bc4::Encoded;
 use libc::STDIN_FILENO;
 use libc::STDOUT_FILENO;
-use lines::Answer;
 
 // How many entries, and how many of them differ.
 struct Tally {
@@ -32,9 +32,8 @@ fn differs(entry: &[u8]) -> bool
     );
     let answer = lines::answer_to(&entry[..68]);
     match answer {
-        Answer::Block(block) => block != rust,
-        Answer::SampleIsNan => true,
-        Answer::WordMalformed => true,
+        Encoded::Block(block) => block != rust,
+        Encoded::Refused(_) => true,
     }
 }
 

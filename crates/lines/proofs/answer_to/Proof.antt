@@ -1,15 +1,11 @@
--- `lines::answer_to` meets its contract: NaN first, then the word. Assumes nothing.
-use Rattle.lines.specs.Answers.{answerOf, byWord}
+-- `lines::answer_to` meets its contract, by the word. Assumes nothing.
+use Rattle.lines.specs.Answers.{byWord}
 use borrow.Author.Needs.{needs}
 use Rattle.lines.proofs.answer_to.Statement.{statement}
 use Rattle.lines.proofs.answer_to.Tie as tie
 
-has-nan-requires : tie.Need-has-nan-requires
-has-nan-requires c κs = search needs
-
-returns : tie.Need-returns
-unfolding answerOf
-returns c = rw (← c .before .has-nan .ensures, c .if1 .taken)
+samples-requires : tie.Need-samples-requires
+samples-requires c κs = search needs
 
 read-word-requires : tie.Need-read-word-requires
 read-word-requires c κs = search needs
@@ -17,40 +13,40 @@ read-word-requires c κs = search needs
 enum-told : tie.Need-enum-told
 enum-told c = search needs
 
+slice-aggregate-malformed : tie.Need-slice-aggregate-malformed
+slice-aggregate-malformed c = search needs
+
+malformed-requires : tie.Need-malformed-requires
+malformed-requires c κs = search needs
+
 enum-known-word : tie.Need-enum-known-word
 enum-known-word c = search needs
 
-samples-requires : tie.Need-samples-requires
-samples-requires c κs =
-    let e = c .before .before .before .before in
-    (search needs, rw (← e .before .has-nan .ensures) (e .if1 .left))
+slice-aggregate-encode-block : tie.Need-slice-aggregate-encode-block
+slice-aggregate-encode-block c = search needs
 
-compress-bc4-block-requires : tie.Need-compress-bc4-block-requires
-compress-bc4-block-requires c κs = search needs
+encode-block-requires : tie.Need-encode-block-requires
+encode-block-requires c κs = search needs
+
+returns : tie.Need-returns
+unfolding byWord
+returns c = rw (← c .before .before .before .before .read-word .ensures, c .before .before .enum-told .given .1, c .malformed .ensures, c .before .before .before .before .before .samples .ensures)
 
 returns-2 : tie.Need-returns-2
-unfolding answerOf byWord
-returns-2 c =
-    let e = c .before .before .before in
-    rw (← e .before .has-nan .ensures, e .if1 .left, ← c .before .before .read-word .ensures, c .enum-told .given .1)
-
-returns-3 : tie.Need-returns-3
-unfolding answerOf byWord
-returns-3 c =
-    let s = c .before .before in
-    let w = s .before .before .before .before in
-    rw (← w .before .before .has-nan .ensures, w .before .if1 .left, ← w .read-word .ensures, s .before .before .word .given .1, c .compress-bc4-block .ensures, s .samples .ensures)
+unfolding byWord
+returns-2 c = rw (← c .before .before .before .before .before .read-word .ensures, c .before .before .before .word .given .1, c .encode-block .ensures, c .before .before .before .before .before .before .samples .ensures)
 
 pub answer-to-spec : {M : Type 1} → statement M
 answer-to-spec =
     tie.close
     (tie.spec
-    has-nan-requires
-    returns
+    samples-requires
     read-word-requires
     enum-told
+    slice-aggregate-malformed
+    malformed-requires
     enum-known-word
-    samples-requires
-    compress-bc4-block-requires
-    returns-2
-    returns-3)
+    slice-aggregate-encode-block
+    encode-block-requires
+    returns
+    returns-2)

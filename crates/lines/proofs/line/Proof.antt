@@ -1,4 +1,5 @@
 -- `lines::line` meets its contract, case by case. Assumes nothing.
+use Rattle.bc4.proofs.Lowest.{number-small}
 use Rattle.lines.specs.Answers.{lineOf}
 use borrow.Author.Needs.{needs}
 use Rattle.lines.proofs.line.Statement.{statement}
@@ -10,17 +11,14 @@ enum-known-answer c = search needs
 hex-requires : tie.Need-hex-requires
 hex-requires c κs = search needs
 
-enum-told : tie.Need-enum-told
-enum-told c = search needs
+enum-known-answer-2 : tie.Need-enum-known-answer-2
+enum-known-answer-2 c = search needs
+
+number-requires : tie.Need-number-requires
+number-requires c κs = search needs
 
 refused-requires : tie.Need-refused-requires
-refused-requires c κs = search needs
-
-enum-told-2 : tie.Need-enum-told-2
-enum-told-2 c = search needs
-
-refused-requires-2 : tie.Need-refused-requires-2
-refused-requires-2 c κs = search needs
+refused-requires c κs = rw (c .number .ensures) (number-small (c .before .before .answer2 .given .0 .0))
 
 returns : tie.Need-returns
 unfolding lineOf
@@ -28,11 +26,7 @@ returns c = rw (c .before .before .answer .given .1) (c .hex .ensures)
 
 returns-2 : tie.Need-returns-2
 unfolding lineOf
-returns-2 c = rw (c .before .enum-told .given .1) (c .refused .ensures)
-
-returns-3 : tie.Need-returns-3
-unfolding lineOf
-returns-3 c = rw (c .before .enum-told2 .given .1) (c .refused2 .ensures)
+returns-2 c = rw (c .before .before .before .answer2 .given .1, ← c .before .number .ensures) (c .refused .ensures)
 
 pub line-spec : {M : Type 1} → statement M
 line-spec =
@@ -40,10 +34,8 @@ line-spec =
     (tie.spec
     enum-known-answer
     hex-requires
-    enum-told
+    enum-known-answer-2
+    number-requires
     refused-requires
-    enum-told-2
-    refused-requires-2
     returns
-    returns-2
-    returns-3)
+    returns-2)

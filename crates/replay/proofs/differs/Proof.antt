@@ -27,9 +27,6 @@ enum-known-answer c = search needs
 enum-told : tie.Need-enum-told
 enum-told c = search needs
 
-enum-told-2 : tie.Need-enum-told-2
-enum-told-2 c = search needs
-
 returns : tie.Need-returns
 unfolding differsOf unlike
 returns c =
@@ -40,10 +37,6 @@ returns c =
 returns-2 : tie.Need-returns-2
 unfolding differsOf unlike
 returns-2 c = rw (← c .before .before .answer-to .ensures, c .enum-told .given .1)
-
-returns-3 : tie.Need-returns-3
-unfolding differsOf unlike
-returns-3 c = rw (← c .before .before .answer-to .ensures, c .enum-told2 .given .1)
 
 pub differs-spec : {M : Type 1} → statement M
 differs-spec =
@@ -56,7 +49,5 @@ differs-spec =
     answer-to-requires
     enum-known-answer
     enum-told
-    enum-told-2
     returns
-    returns-2
-    returns-3)
+    returns-2)

@@ -1,12 +1,11 @@
 -- `lines::input::samples` meets its contract: the array is filled from its start. Assumes nothing.
-use mathlib.Core.Path.{refl, ap}
+use mathlib.Core.Path.{refl, ap, _∙_}
 use Prim.Native.Nat.{ℕ, _≤_, _-_}
 use native.Mathlib.Omega.{arith}
 use lib.Ieee.{binary32, nan, ofBits}
-use borrow.Author.Needs.{needs}
 use Rattle.block.proofs.Fill.{Filled, fill-start, fill-step, fill-end}
 use Rattle.lines.specs.Input.{patternAt, samplesOf}
-use Rattle.lines.proofs.Laws.{no-nan}
+use borrow.Author.Needs.{needs}
 use Rattle.lines.proofs.input.samples.Statement.{statement}
 use Rattle.lines.proofs.input.samples.Tie as tie
 
@@ -22,10 +21,8 @@ loop-holds c = (search needs, fill-start nan _ 16 _ refl)
 pattern-requires : tie.Need-pattern-requires Inv-loop μ-loop
 pattern-requires c κs = search needs
 
-float-from-bits-b : tie.Need-float-from-bits-b Inv-loop μ-loop
-float-from-bits-b c =
-    let h = c .before .before in
-    rw (c .pattern .ensures, no-nan (h .before .before .args .bytes .now) 16 (h .loop .i) (c .before .loop-test .taken) (h .before .before .pre .1)) tt
+float-of-requires : tie.Need-float-of-requires Inv-loop μ-loop
+float-of-requires c κs = search needs
 
 mul-b : tie.Need-mul-b Inv-loop μ-loop
 mul-b c = search needs
@@ -41,9 +38,9 @@ loop-less c = search needs
 
 loop-again : tie.Need-loop-again Inv-loop μ-loop
 loop-again c =
-    let h = c .before .before in
+    let h = c .before .before .before in
     let s = h .before .before .args .bytes .now in
-    (search needs, fill-step nan (λ (k : ℕ). ofBits binary32 (patternAt s k)) 16 (h .loop .b) (h .loop .i) (ofBits binary32 (c .pattern .result)) (h .loop .inv .1) (c .before .loop-test .taken) (ap (ofBits binary32) (c .pattern .ensures)))
+    (search needs, fill-step nan (λ (k : ℕ). ofBits binary32 (patternAt s k)) 16 (h .loop .b) (h .loop .i) (c .float-of .result) (h .loop .inv .1) (c .before .before .loop-test .taken) (c .float-of .ensures ∙ ap (ofBits binary32) (c .before .pattern .ensures)))
 
 returns : tie.Need-returns Inv-loop μ-loop
 unfolding samplesOf
@@ -59,7 +56,7 @@ samples-spec =
     μ-loop
     loop-holds
     pattern-requires
-    float-from-bits-b
+    float-of-requires
     mul-b
     array-write-b
     add-i
