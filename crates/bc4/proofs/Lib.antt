@@ -1,3 +1,4 @@
 pub mod Nans
 pub mod Lowest
 pub mod Views
+pub mod Determined

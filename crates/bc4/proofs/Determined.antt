@@ -1,0 +1,68 @@
+-- A promise leaves no choice: two outcomes that a call's contract allows, of one call, are equal. `Post` of a call is its contract as the checker
+-- reads it, over the arguments, the result, and what lent memory holds at the end. Assumes nothing.
+use mathlib.Core.Path.{_≡_, sym, ap, _∙_}
+use mathlib.Core.List.{List}
+use Prim.Native.Nat.{ℕ}
+use borrow.Fn.Kinds.{PK, RK, Out, Dens, resT, endedOf}
+use contract.Lifetimes.{Lfts}
+use denote.Triple.Clauses.{AtExit}
+use Rattle.bc4.specs.Calls.{samplesAfter, outAfter}
+use Rattle.bc4.proofs.encode_block.Kinds as encode-block-kinds
+use Rattle.bc4.proofs.encode_block.Reads as encode-block
+use Rattle.bc4.proofs.block_error.Kinds as block-error-kinds
+use Rattle.bc4.proofs.block_error.Reads as block-error
+use Rattle.bc4.proofs.resend.Kinds as resend-kinds
+use Rattle.bc4.proofs.resend.Reads as resend
+use Rattle.bc4.proofs.view_refusal.Kinds as view-refusal-kinds
+use Rattle.bc4.proofs.view_refusal.Reads as view-refusal
+use Rattle.bc4.proofs.bytes.Kinds as bytes-kinds
+use Rattle.bc4.proofs.bytes.Reads as bytes
+use Rattle.bc4.proofs.decode_block.Kinds as decode-block-kinds
+use Rattle.bc4.proofs.decode_block.Reads as decode-block
+use Rattle.bc4.proofs.encode_tile.Kinds as encode-tile-kinds
+use Rattle.bc4.proofs.encode_tile.Reads as encode-tile
+use Rattle.bc4.proofs.block_view.Kinds as block-view-kinds
+use Rattle.bc4.proofs.block_view.Reads as block-view
+
+module _ (n : ℕ) (ps : List (PK n)) (r : RK n) (post : Out n ps r) where
+  abbrev One-answer : Type 0
+  One-answer = (κs : Lfts n) (a : Dens κs ps) (x y : resT r κs .Denot) (s t : AtExit (endedOf n ps r) κs) → post κs a x s → post κs a y t → x ≡ y
+
+  -- a part of what lent memory holds
+  abbrev One-end : {A : Type 0} → ((κs : Lfts n) → AtExit (endedOf n ps r) κs → A) → Type 0
+  One-end part = (κs : Lfts n) (a : Dens κs ps) (x y : resT r κs .Denot) (s t : AtExit (endedOf n ps r) κs) → post κs a x s → post κs a y t → part κs s ≡ part κs t
+
+pub encode-determined : One-answer 1 encode-block-kinds.ps encode-block-kinds.r encode-block.Post
+encode-determined κs a x y s t p q = p ∙ sym q
+
+pub error-determined : One-answer 2 block-error-kinds.ps block-error-kinds.r block-error.Post
+error-determined κs a x y s t p q = p ∙ sym q
+
+pub resend-determined : One-answer 2 resend-kinds.ps resend-kinds.r resend.Post
+resend-determined κs a x y s t p q = p ∙ sym q
+
+pub refusal-determined : One-answer 1 view-refusal-kinds.ps view-refusal-kinds.r view-refusal.Post
+refusal-determined κs a x y s t p q = p ∙ sym q
+
+pub bytes-determined : One-answer 0 bytes-kinds.ps bytes-kinds.r bytes.Post
+bytes-determined κs a x y s t p q = p ∙ sym q
+
+-- decode: the answer, and the sixteen samples
+pub decode-determined : One-answer 2 decode-block-kinds.ps decode-block-kinds.r decode-block.Post
+decode-determined κs a x y s t p q = p .0 ∙ sym (q .0)
+
+pub decode-samples-determined : One-end 2 decode-block-kinds.ps decode-block-kinds.r decode-block.Post (λ κs s. s .1 .1 .0 .now)
+decode-samples-determined κs a x y s t p q = p .1 ∙ ap (λ z. samplesAfter z (a .1 .0) (a .0 .now) (a .1 .1 .0 .now)) (p .0 ∙ sym (q .0)) ∙ sym (q .1)
+
+-- encode tile: the answer, and every byte of the output
+pub tile-determined : One-answer 2 encode-tile-kinds.ps encode-tile-kinds.r encode-tile.Post
+tile-determined κs a x y s t p q = p .0 ∙ sym (q .0)
+
+pub tile-bytes-determined : One-end 2 encode-tile-kinds.ps encode-tile-kinds.r encode-tile.Post (λ κs s. s .1 .1 .1 .1 .0 .now)
+tile-bytes-determined κs a x y s t p q =
+    p .1 ∙ ap (λ z. outAfter z (a .0 .now) (a .1 .0) (a .1 .1 .0) (a .1 .1 .1 .0) (a .1 .1 .1 .1 .0 .now)) (p .0 ∙ sym (q .0)) ∙ sym (q .1)
+
+-- block view: the bytes of the part. Which part it is, where two blocks of a tile are alike, the contract of a slice does not say.
+pub view-determined : (κs : Lfts 1) (a : Dens κs block-view-kinds.ps) (x y : resT block-view-kinds.r κs .Denot) (s t : AtExit (endedOf 1 block-view-kinds.ps block-view-kinds.r) κs)
+    → block-view.Post κs a x s → block-view.Post κs a y t → x .now ≡ y .now
+view-determined κs a x y s t p q = p ∙ sym q
