@@ -64,11 +64,14 @@ pub fn decode_block(encoded: &[u8], snorm: bool, samples: &mut [f32; 16]) -> Che
     ensures answer { λ r. ⌜ r ≡ lowest (decodeChecks (now (encoded .entry))) ⌝ }
     ensures samples { λ r. ⌜ now (samples .exit) ≡ samplesAfter r snorm (now (encoded .entry)) (now (samples .entry)) ⌝ }
 {
-    if encoded.len() != 8 {
-        return Checked::Refused(Refusal::EncodedLength);
+    let checked = refusal::decode(encoded);
+    match checked {
+        Checked::Refused(q) => Checked::Refused(q),
+        Checked::Passed => {
+            decode::decode_into(index_list::from_bytes(encoded), snorm, samples);
+            Checked::Passed
+        }
     }
-    decode::decode_into(index_list::from_bytes(encoded), snorm, samples);
-    Checked::Passed
 }
 
 pub fn block_error(samples: &[f32], encoded: &[u8], snorm: bool) -> Scored
@@ -131,8 +134,9 @@ pub fn encode_tile(
     match checked {
         Checked::Refused(q) => Tiled::Refused(q),
         Checked::Passed => {
+            let area = width * height;
             tile::encode_rows(samples, width, height / 4, o, out);
-            Tiled::Written(width * height / 2)
+            Tiled::Written(area / 2)
         }
     }
 }

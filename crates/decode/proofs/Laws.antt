@@ -1,17 +1,20 @@
 -- The sum of a block error by one pixel more, a decoded sample by its pixel, and the sizes of bytes and indexes. Assumes nothing.
-use mathlib.Core.Path.{_≡_}
+use mathlib.Core.Path.{_≡_, sym, _∙_}
 use mathlib.Core.List.{List}
 use mathlib.Core.Bool.{Bool}
-use Prim.Native.Nat.{ℕ, _+_, _<_}
+use Prim.Native.Nat.{ℕ, _+_, _*_, _%_, _^_, _<_}
 use native.Mathlib.Numerals.{add-one}
 use native.Mathlib.Omega.{arith}
 use lib.Ieee.{Float, nan}
 use Rattle.floats.specs.Arithmetic.{_⊕_}
-use Rattle.index_list.specs.Layout.{byteAt}
-use Rattle.block.specs.Samples.{pixelAt}
-use Rattle.block.proofs.Fill.{getD-tabulate}
+use lib.Pow.{shr-shr}
+use lib.Seq.{ext-getD}
+use Rattle.index_list.specs.Layout.{byteAt, bytesOf, fromBytes}
+use Rattle.index_list.proofs.Laws.{bits-low, from-bytesOf}
+use Rattle.block.specs.Samples.{pixelAt, perPixel}
+use Rattle.block.proofs.Fill.{length-tabulate, getD-tabulate}
 use Rattle.decode.specs.Meaning.{blockIndex, sampleAt, decoded}
-use Rattle.decode.specs.BlockError.{sampleError, errorTo}
+use Rattle.decode.specs.BlockError.{sampleError, errorTo, blockError}
 
 pub errorTo-more : (s v : List Float) (k : ℕ) → errorTo s v (k + 1) ≡ errorTo s v k ⊕ sampleError (pixelAt s k) (pixelAt v k)
 unfolding errorTo
@@ -26,3 +29,22 @@ byte-lt n j = omega arith
 
 pub index-lt : (n i : ℕ) → blockIndex n i < 8
 index-lt n i = omega arith
+
+-- ---- Bits from 64 on mean nothing.
+low-index : (n i : ℕ) → i < 16 → blockIndex (n % 2 ^ 64) i ≡ blockIndex n i
+low-index n i h = rw (shr-shr, shr-shr) (bits-low n (16 + 3 * i) 3 64 (omega arith))
+
+low-sample : (snorm : Bool) (n i : ℕ) → i < 16 → sampleAt snorm (n % 2 ^ 64) i ≡ sampleAt snorm n i
+low-sample snorm n i h = rw (low-index n i h, bits-low n 0 8 64 (omega arith), bits-low n 8 8 64 (omega arith))
+
+pub decoded-low : (snorm : Bool) (n : ℕ) → decoded snorm (n % 2 ^ 64) ≡ decoded snorm n
+unfolding decoded
+decoded-low snorm n =
+    ext-getD nan (perPixel (sampleAt snorm (n % 2 ^ 64))) (perPixel (sampleAt snorm n)) (length-tabulate _ 0 16 ∙ sym (length-tabulate _ 0 16))
+    (λ i h. let l : i < 16 = rw (length-tabulate (sampleAt snorm (n % 2 ^ 64)) 0 16) at h in
+    getD-tabulate (sampleAt snorm (n % 2 ^ 64)) nan 16 i l ∙ low-sample snorm n i l ∙ sym (getD-tabulate (sampleAt snorm n) nan 16 i l))
+
+-- So a block that was laid out in bytes is read as it was.
+pub error-of-bytes : (snorm : Bool) (s : List Float) (n : ℕ) → blockError snorm s (fromBytes (bytesOf n)) ≡ blockError snorm s n
+unfolding blockError
+error-of-bytes snorm s n = rw (from-bytesOf n, decoded-low snorm n)

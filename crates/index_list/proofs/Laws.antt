@@ -3,7 +3,7 @@ use mathlib.Core.Path.{_≡_, refl, ap, _∙_}
 use mathlib.Core.List.{List, [], _∷_}
 use mathlib.Core.Logic.{dite}
 use Prim.Native.Nat.{ℕ, zero, suc, _+_, _-_, _*_, _/_, _%_, _^_, _<_, _≤_}
-use native.Mathlib.Nat.{add-mul-div-right, div-eq-of-lt, div-lt-iff-lt-mul, div-one, lt-of-lt-of-le, mod-eq-of-lt, mul-assoc}
+use native.Mathlib.Nat.{add-mul-div-right, div-eq-of-lt, div-lt-iff-lt-mul, div-one, lt-of-lt-of-le, mul-assoc}
 use native.Mathlib.Numerals.{add-one}
 use native.Mathlib.Decide.{decLt}
 use native.Mathlib.Omega.{arith}
@@ -86,10 +86,10 @@ filled-same f g (suc n) same = rw (filled-same f g n (λ k lt. same k (omega ari
 pub all-get : (v i : ℕ) → v < 8 → i < 16 → indexAt (filledTo (λ k. v) 16) i ≡ v
 all-get v i small lt = filled-get (λ k. v) 16 (λ k h. small) i lt
 
--- the bytes below bit m are those of the m low bits
-byte-low : (d j m : ℕ) → 8 * j + 8 ≤ m → byteAt (d % 2 ^ m) j ≡ byteAt d j
-byte-low d j m le =
-    let e : m ≡ m - (8 * j + 8) + 8 + 8 * j = omega arith in
+-- bits below m are those of the m low bits
+pub bits-low : (d k w m : ℕ) → k + w ≤ m → d % 2 ^ m / 2 ^ k % 2 ^ w ≡ d / 2 ^ k % 2 ^ w
+bits-low d k w m le =
+    let e : m ≡ m - (k + w) + w + k = omega arith in
     rw (e, field, mod-mod-pow)
 
 -- from byte 2 on a block's bytes are the list's
@@ -97,7 +97,7 @@ byte-list : (c0 c1 d : ℕ) → c0 < 256 → c1 < 256 → (j : ℕ) → j < 6 �
 byte-list c0 c1 d h0 h1 j lt =
     let high : packed c0 c1 d / 2 ^ 16 ≡ d % 2 ^ 48 = omega arith in
     let e : 8 * (j + 2) ≡ 16 + 8 * j = omega arith in
-    rw (e, ← shr-shr, high) (byte-low d j 48 (omega arith))
+    rw (e, ← shr-shr, high) (bits-low d (8 * j) 8 48 (omega arith))
 
 -- A block's bytes are the two endpoints, then the list's six bytes.
 pub bytes-packed : (c0 c1 d : ℕ) → c0 < 256 → c1 < 256
@@ -144,9 +144,9 @@ from-eight bs e =
       from-none bs 8 (omega arith),
     )
 
--- The bytes of a number of 64 bits are its bytes.
-pub from-bytesOf : (n : ℕ) → n < 2 ^ 64 → fromBytes (bytesOf n) ≡ n
+-- The bytes of a number are its 64 low bits.
+pub from-bytesOf : (n : ℕ) → fromBytes (bytesOf n) ≡ n % 2 ^ 64
 unfolding fromBytes
-from-bytesOf n h =
+from-bytesOf n =
     let last : byteAt n 7 + 2 ^ 8 * 0 ≡ n / 2 ^ 56 % 2 ^ 8 = omega arith in
-    rw (last, byte-first n 48 8, byte-first n 40 16, byte-first n 32 24, byte-first n 24 32, byte-first n 16 40, byte-first n 8 48, byte-first n 0 56, div-one) (mod-eq-of-lt h)
+    rw (last, byte-first n 48 8, byte-first n 40 16, byte-first n 32 24, byte-first n 24 32, byte-first n 16 40, byte-first n 8 48, byte-first n 0 56, div-one)

@@ -21,6 +21,13 @@ enum-known-checked c = search needs
 enum-told : tie.Need-enum-told
 enum-told c = search needs
 
+mul-area : tie.Need-mul-area
+mul-area c =
+    let start = c .before .before .before .before .before in
+    let clear = lowest-clear _ (sym (c .before .before .tile .ensures) ∙ c .enum-told .given .1) in
+    let small = size-small (start .args .width) (start .args .height) (clear .0) in
+    search needs
+
 encode-rows-requires : tie.Need-encode-rows-requires
 encode-rows-requires c κs =
     let clear = lowest-clear _ (sym (c .before .before .before .tile .ensures) ∙ c .before .enum-told .given .1) in
@@ -31,13 +38,6 @@ encode-rows-requires c κs =
     let many : length (start .args .samples .now) ≡ start .args .width * start .args .height = same-of _ _ (clear .1 .0) in
     let room : encodedLength (start .args .width) (start .args .height) ≤ length (start .args .out .now) = ltb-false _ _ (clear .1 .1 .0) in
     (size .0 .short, omega arith, omega arith)
-
-mul-t11 : tie.Need-mul-t11
-mul-t11 c =
-    let start = c .before .before .before .before .before .before .before .before .before in
-    let clear = lowest-clear _ (sym (c .before .before .before .before .before .before .tile .ensures) ∙ c .before .before .before .before .enum-told .given .1) in
-    let small = size-small (start .args .width) (start .args .height) (clear .0) in
-    search needs
 
 returns : tie.Need-returns
 unfolding tiledOn outAfter
@@ -61,8 +61,8 @@ encode-tile-spec =
     tile-requires
     enum-known-checked
     enum-told
+    mul-area
     encode-rows-requires
-    mul-t11
     returns
     same-length
     returns-2)
