@@ -17,7 +17,7 @@ use Rattle.tile.proofs.Places.{fits}
 use Rattle.tile.proofs.Stretches.{row-length, tile-length}
 
 -- eight bytes that lie in the first list, and eight that lie in the second
-in-first : (a b : List ℕ) (at n : ℕ) → length a ≡ n → at + 8 ≤ n → take 8 (drop at (a ++ b)) ≡ take 8 (drop at a)
+pub in-first : (a b : List ℕ) (at n : ℕ) → length a ≡ n → at + 8 ≤ n → take 8 (drop at (a ++ b)) ≡ take 8 (drop at a)
 in-first a b at n e h =
     let p : at ≤ length a = omega arith in
     let q : 8 ≤ length (drop at a) = simp length-drop (omega arith) in

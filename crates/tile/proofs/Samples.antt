@@ -8,7 +8,7 @@ use native.Mathlib.Omega.{arith}
 use lib.ListN.{length}
 use lib.Ieee.{Float, nan, isNan}
 use Rattle.block.specs.Samples.{pixelAt}
-use Rattle.block.proofs.Fill.{fill-end, getD-tabulate}
+use Rattle.block.proofs.Fill.{fill-end, length-tabulate, getD-tabulate}
 use Rattle.tile.specs.Place.{along}
 use Rattle.tile.specs.Tile.{sampleAt, blockOf}
 use Rattle.tile.proofs.Places.{fits}
@@ -39,3 +39,7 @@ blockOf-real s width height column row e h k real i l =
     let within = sample-within width column row i h l .1 in
     let inside : sampleAt width column row i < length s = omega (arith, mul-le-mul-right width rows, mul-comm width height) in
     rw (getD-tabulate (λ (m : ℕ). pixelAt s (sampleAt width column row m)) nan 16 i l) (real (sampleAt width column row i) inside)
+
+pub blockOf-length : (s : List Float) (width column row : ℕ) → length (blockOf s width column row) ≡ 16
+unfolding blockOf
+blockOf-length s width column row = length-tabulate (λ (i : ℕ). pixelAt s (sampleAt width column row i)) 0 16

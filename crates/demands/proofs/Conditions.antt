@@ -1,0 +1,131 @@
+-- Each check says what the table's condition says. Assumes nothing.
+use mathlib.Core.Path.{_≡_, refl, sym, ap, _∙_, subst}
+use mathlib.Core.Bool.{Bool, true, false, not, cond, _||_}
+use mathlib.Core.Logic.{_⊎_, inl, inr}
+use mathlib.Core.List.{List, [], _∷_}
+use Prim.Native.Nat.{ℕ, zero, suc, _%_, _<_, _≤_}
+use native.Mathlib.Nat.{le-of-suc-le-suc}
+use native.Mathlib.Omega.{arith}
+use lib.Dec.{leb, ltb, eqb}
+use lib.ListN.{length}
+use lib.Ieee.{Float, isNan}
+use borrow.Author.Tests.{lt-ltb, ltb-true, le-leb, leb-true, eq-eqb, eqb-true, ne-eqb, eqb-false, not-true}
+use Rattle.floats.proofs.Tests.{clash}
+use Rattle.block.specs.Samples.{pixelAt}
+use Rattle.tile.specs.Place.{longestSide, badSide, badSize, along, noBlock}
+use Rattle.bc4.specs.declared.refusal.Refusal.{Refusal}
+use Rattle.bc4.specs.declared.refusal.Refusal.the-variants.{SampleIsNan}
+use Rattle.bc4.specs.Refusals.{Check, firstNan}
+use Rattle.demands.specs.Demand1.{BadSide, Missing, LowestNan, WhenNan, Iff}
+use Rattle.demands.proofs.Refusing.{Has}
+
+-- ---- from one check to a list of them
+pub next-iff : {A B : Type 0} {H R : Type 0} → Iff A B → Iff H R → Iff (A ⊎ H) (B ⊎ R)
+next-iff {A} {B} {H} {R} f g = (there, back)
+  where
+    there : A ⊎ H → B ⊎ R
+    there (inl x) = inl (f .0 x)
+    there (inr y) = inr (g .0 y)
+
+    back : B ⊎ R → A ⊎ H
+    back (inl x) = inl (f .1 x)
+    back (inr y) = inr (g .1 y)
+
+pub last-iff : {A B : Type 0} → Iff A B → Iff (A ⊎ ⊥) B
+last-iff {A} {B} f = (there, λ x. inl (f .1 x))
+  where
+    there : A ⊎ ⊥ → B
+    there (inl x) = f .0 x
+    there (inr y) = absurd y
+
+-- a refusal whose condition is another's
+pub when-iff : {E A B : Type 0} → Iff A B → Iff (E × A) (E × B)
+when-iff f = (λ x. (x .0, f .0 (x .1)), λ x. (x .0, f .1 (x .1)))
+
+pub iff-refl : {A : Type 0} → Iff A A
+iff-refl = (λ x. x, λ x. x)
+
+iff-trans : {A B C : Type 0} → Iff A B → Iff B C → Iff A C
+iff-trans f g = (λ x. g .0 (f .0 x), λ z. f .1 (g .1 z))
+
+-- ---- tests
+or-iff : (a b : Bool) → Iff (a || b ≡ true) ((a ≡ true) ⊎ (b ≡ true))
+or-iff true b = (λ e. inl refl, λ e. refl)
+or-iff false b = (λ e. inr e, back)
+  where
+    back : (false ≡ true) ⊎ (b ≡ true) → b ≡ true
+    back (inl e) = clash e refl
+    back (inr e) = e
+
+pub unequal-iff : (m n : ℕ) → Iff (not (eqb m n) ≡ true) (m ≡ n → ⊥)
+unequal-iff m n = (λ e. eqb-false m n (not-true (eqb m n) e), λ f. ap not (ne-eqb m n f))
+
+pub below-iff : (m n : ℕ) → Iff (ltb m n ≡ true) (m < n)
+below-iff m n = (ltb-true m n, lt-ltb m n)
+
+side-iff : (n : ℕ) → Iff (badSide n ≡ true) (BadSide n)
+unfolding badSide
+side-iff n =
+    iff-trans (or-iff (eqb n 0 || ltb longestSide n) (not (eqb (n % 4) 0)))
+    (iff-trans (next-iff (iff-trans (or-iff (eqb n 0) (ltb longestSide n)) (next-iff (eqb-true n 0, eq-eqb n 0) (below-iff longestSide n))) (unequal-iff (n % 4) 0)) (there, back))
+  where
+    there : ((n ≡ 0) ⊎ (1024 < n)) ⊎ (n % 4 ≡ 0 → ⊥) → BadSide n
+    there (inl (inl x)) = inl x
+    there (inl (inr x)) = inr (inl x)
+    there (inr x) = inr (inr x)
+
+    back : BadSide n → ((n ≡ 0) ⊎ (1024 < n)) ⊎ (n % 4 ≡ 0 → ⊥)
+    back (inl x) = inl (inl x)
+    back (inr (inl x)) = inl (inr x)
+    back (inr (inr x)) = inr x
+
+pub size-iff : (width height : ℕ) → Iff (badSize width height ≡ true) (BadSide width ⊎ BadSide height)
+unfolding badSize
+size-iff width height = iff-trans (or-iff (badSide width) (badSide height)) (next-iff (side-iff width) (side-iff height))
+
+pub place-iff : (width height column row : ℕ) → Iff (noBlock width height column row ≡ true) (Missing width height column row)
+place-iff width height column row =
+    iff-trans (or-iff (leb (along width) column) (leb (along height) row))
+    (next-iff (leb-true (along width) column, le-leb (along width) column) (leb-true (along height) row, le-leb (along height) row))
+
+-- ---- the lowest index of a NaN
+lowest-nan : (s : List Float) → firstNan s < length s → LowestNan s (firstNan s)
+unfolding firstNan
+lowest-nan [] h = absurd (omega arith)
+lowest-nan (x ∷ s) h = go (isNan x) refl h (lowest-nan s)
+  where
+    go : (t : Bool) → isNan x ≡ t → cond t 0 (suc (firstNan s)) < suc (length s) → (firstNan s < length s → LowestNan s (firstNan s)) → LowestNan (x ∷ s) (cond t 0 (suc (firstNan s)))
+    go true t h rest = record { within = omega arith; there = t; none-lower = λ j l. absurd (omega arith) }
+    go false t h rest = let r = rest (le-of-suc-le-suc h) in record { within = h; there = r .there; none-lower = lower r }
+      where
+        lower : LowestNan s (firstNan s) → (j : ℕ) → j < suc (firstNan s) → isNan (pixelAt (x ∷ s) j) ≡ false
+        lower r zero l = t
+        lower r (suc j) l = r .none-lower j (le-of-suc-le-suc l)
+
+nan-found : (s : List Float) (i : ℕ) → LowestNan s i → firstNan s ≡ i
+unfolding firstNan
+nan-found [] i w = absurd (let h = w .within in omega arith)
+nan-found (x ∷ s) zero w = rw (w .there)
+nan-found (x ∷ s) (suc i) w =
+    let rest = nan-found s i (record { within = le-of-suc-le-suc (w .within); there = w .there; none-lower = λ j l. w .none-lower (suc j) (omega arith) }) in
+    rw (w .none-lower 0 (omega arith)) (ap suc rest)
+
+pub nan-iff : (q : Refusal) (s : List Float) → Iff ((q ≡ SampleIsNan (firstNan s)) × (ltb (firstNan s) (length s) ≡ true)) (WhenNan q s)
+nan-iff q s = (
+  λ x. (firstNan s, x .0, lowest-nan s (ltb-true (firstNan s) (length s) (x .1))),
+  λ y.
+      let found = nan-found s (y .0) (y .2) in
+      (y .1 ∙ ap SampleIsNan (sym found), lt-ltb (firstNan s) (length s) (subst (λ (i : ℕ). i < length s) (sym found) (y .2 .within))),
+)
+
+-- where the search ends without one, no sample is NaN
+pub nan-free : (s : List Float) → length s ≤ firstNan s → (i : ℕ) → i < length s → isNan (pixelAt s i) ≡ false
+unfolding firstNan
+nan-free [] h i l = absurd (omega arith)
+nan-free (x ∷ s) h i l = go (isNan x) refl h i l (nan-free s)
+  where
+    go : (t : Bool) → isNan x ≡ t → suc (length s) ≤ cond t 0 (suc (firstNan s)) → (i : ℕ) → i < suc (length s)
+        → (length s ≤ firstNan s → (i : ℕ) → i < length s → isNan (pixelAt s i) ≡ false) → isNan (pixelAt (x ∷ s) i) ≡ false
+    go true t h i l rest = absurd (omega arith)
+    go false t h zero l rest = t
+    go false t h (suc i) l rest = rest (le-of-suc-le-suc h) i (le-of-suc-le-suc l)

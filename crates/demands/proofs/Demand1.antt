@@ -1,0 +1,75 @@
+-- Demand 1. Assumes nothing.
+use mathlib.Core.Path.{_≡_, refl, sym, subst}
+use mathlib.Core.Bool.{Bool, true}
+use mathlib.Core.List.{List, [], _∷_, _++_}
+use Prim.Native.Nat.{ℕ}
+use lib.Dec.{lit<}
+use lib.ListN.{length}
+use lib.Ieee.{Float}
+use Rattle.refine.specs.declared.options.Options.{Options}
+use Rattle.bc4.specs.declared.refusal.Refusal.{Refusal}
+use Rattle.bc4.specs.declared.refusal.Refusal.the-variants.{WordMalformed}
+use Rattle.bc4.specs.declared.refusal.Checked.{Checked}
+use Rattle.bc4.specs.declared.refusal.Checked.the-variants.{Passed, Refused}
+use Rattle.bc4.specs.Refusals.{Check, when, lowest, encodeChecks, decodeChecks, errorChecks, resendChecks, tileChecks, viewChecks}
+use Rattle.bc4.specs.Calls.{encodedOn, samplesAfter, scoredOn, resentOn, tiledOn, outAfter, viewOn}
+use Rattle.bc4.proofs.Lowest.{malformed-last}
+use Rattle.demands.specs.Demand1.{Exactly, Demand1, EncodeRefuses, DecodeRefuses, ErrorRefuses, ResendRefuses, TileRefuses, ViewRefuses, RecordRefuses, ofEncoded, ofScored, ofResent, ofTiled}
+use Rattle.demands.proofs.Refusing.{exactly}
+use Rattle.demands.proofs.Conditions.{next-iff, last-iff, when-iff, iff-refl, unequal-iff, below-iff, size-iff, place-iff, nan-iff}
+
+-- an answer refuses as its checks do
+same-answer : {R : Refusal → Type 0} {a c : Checked} → a ≡ c → Exactly c R → Exactly a R
+same-answer {R} e x = subst (λ (y : Checked). Exactly y R) (sym e) x
+
+encoded-refusal : (c : Checked) (s : List Float) (o : Options) → ofEncoded (encodedOn c s o) ≡ c
+unfolding encodedOn
+encoded-refusal Passed s o = refl
+encoded-refusal (Refused q) s o = refl
+
+scored-refusal : (c : Checked) (s : List Float) (b : List ℕ) (snorm : Bool) → ofScored (scoredOn c s b snorm) ≡ c
+unfolding scoredOn
+scored-refusal Passed s b snorm = refl
+scored-refusal (Refused q) s b snorm = refl
+
+resent-refusal : (c : Checked) (s : List Float) (b : List ℕ) (o : Options) → ofResent (resentOn c s b o) ≡ c
+unfolding resentOn
+resent-refusal Passed s b o = refl
+resent-refusal (Refused q) s b o = refl
+
+tiled-refusal : (c : Checked) (width height : ℕ) → ofTiled (tiledOn c width height) ≡ c
+unfolding tiledOn
+tiled-refusal Passed width height = refl
+tiled-refusal (Refused q) width height = refl
+
+pub encode-exactly : (s : List Float) → Exactly (lowest (encodeChecks s)) (EncodeRefuses s)
+encode-exactly s = exactly (encodeChecks s) (EncodeRefuses s) ((lit< tt, tt), (tt, tt)) (λ q. next-iff (when-iff (unequal-iff _ _)) (last-iff (nan-iff q s)))
+
+pub demand-1 : Demand1
+unfolding samplesAfter outAfter viewOn
+demand-1 = record {
+  encode = λ s o. same-answer (encoded-refusal (lowest (encodeChecks s)) s o) (encode-exactly s);
+  decode = λ b. exactly (decodeChecks b) (DecodeRefuses b) (tt, tt) (λ q. last-iff (when-iff (unequal-iff _ _)));
+  error = λ s b snorm.
+      same-answer (scored-refusal (lowest (errorChecks s b)) s b snorm)
+      (exactly (errorChecks s b) (ErrorRefuses s b) ((lit< tt, (lit< tt, tt)), ((lit< tt, tt), (tt, tt)))
+      (λ q. next-iff (when-iff (unequal-iff _ _)) (next-iff (when-iff (unequal-iff _ _)) (last-iff (nan-iff q s)))));
+  resend = λ s held o.
+      same-answer (resent-refusal (lowest (resendChecks s held o)) s held o)
+      (exactly (resendChecks s held o) (ResendRefuses s held o) ((lit< tt, (lit< tt, (lit< tt, tt))), ((lit< tt, (lit< tt, tt)), ((lit< tt, tt), (tt, tt))))
+      (λ q. next-iff (when-iff (unequal-iff _ _)) (next-iff (when-iff (unequal-iff _ _)) (next-iff (when-iff iff-refl) (last-iff (nan-iff q s))))));
+  tile = λ s width height out.
+      same-answer (tiled-refusal (lowest (tileChecks s width height (length out))) width height)
+      (exactly (tileChecks s width height (length out)) (TileRefuses s width height out) ((lit< tt, (lit< tt, (lit< tt, tt))), ((lit< tt, (lit< tt, tt)), ((lit< tt, tt), (tt, tt))))
+      (λ q. next-iff (when-iff (size-iff width height)) (next-iff (when-iff (unequal-iff _ _)) (next-iff (when-iff (below-iff _ _)) (last-iff (nan-iff q s))))));
+  view = λ tile width height column row.
+      exactly (viewChecks (length tile) width height column row) (ViewRefuses tile width height column row) ((lit< tt, (lit< tt, tt)), ((lit< tt, tt), (tt, tt)))
+      (λ q. next-iff (when-iff (size-iff width height)) (next-iff (when-iff (unequal-iff _ _)) (last-iff (when-iff (place-iff width height column row)))));
+  malformed = λ s.
+      same-answer (sym (malformed-last (encodeChecks s)))
+      (exactly (encodeChecks s ++ when WordMalformed true ∷ []) (RecordRefuses s) ((lit< tt, (lit< tt, tt)), ((lit< tt, tt), (tt, tt)))
+      (λ q. next-iff (when-iff (unequal-iff _ _)) (next-iff (nan-iff q s) (last-iff (when-iff (λ e. tt, λ e. refl))))));
+  decode-leaves = λ q snorm encoded before. refl;
+  tile-leaves = λ q samples width height o before. refl;
+  view-empty = λ q tile width height column row e. rw e;
+}

@@ -1,0 +1,133 @@
+-- Demand 1: a refusal is exactly the numbered one of document 01's table, and changes no byte of a lent buffer. The conditions are written in the
+-- table's words; the answers are those that the contracts of `bc4` cite. That every call ends with an answer, for every input, is what a contract
+-- without `requires` says.
+use mathlib.Core.Path.{_≡_}
+use mathlib.Core.Bool.{Bool, true, false}
+use mathlib.Core.Logic.{_⊎_}
+use mathlib.Core.List.{List, []}
+use Prim.Native.Nat.{ℕ, _*_, _/_, _%_, _<_, _≤_}
+use lib.ListN.{length}
+use lib.Ieee.{Float, isNan}
+use Rattle.block.specs.Samples.{pixelAt}
+use Rattle.refine.specs.declared.options.Options.{Options}
+use Rattle.bc4.specs.declared.refusal.Refusal.{Refusal}
+use Rattle.bc4.specs.declared.refusal.Refusal.the-variants.{Size, SampleCount, EncodedLength, OutputLength, DitheredResend, NoSuchBlock, SampleIsNan, WordMalformed}
+use Rattle.bc4.specs.declared.refusal.Checked.{Checked}
+use Rattle.bc4.specs.declared.refusal.Checked.the-variants.{Passed, Refused}
+use Rattle.bc4.specs.declared.Encoded.{Encoded}
+use Rattle.bc4.specs.declared.Encoded.the-variants.{Block, Refused as NotEncoded}
+use Rattle.bc4.specs.declared.Scored.{Scored}
+use Rattle.bc4.specs.declared.Scored.the-variants.{Error, Refused as NotScored}
+use Rattle.bc4.specs.declared.Resent.{Resent}
+use Rattle.bc4.specs.declared.Resent.the-variants.{Block as Answered, Refused as NotResent}
+use Rattle.bc4.specs.declared.Tiled.{Tiled}
+use Rattle.bc4.specs.declared.Tiled.the-variants.{Written, Refused as NotTiled}
+use Rattle.bc4.specs.Refusals.{numberOf, lowest, orMalformed, encodeChecks, decodeChecks, viewChecks}
+use Rattle.bc4.specs.Calls.{encodeAnswer, samplesAfter, errorAnswer, resendAnswer, tileAnswer, outAfter, viewOf}
+
+-- ---- the table's conditions
+-- 1
+abbrev pub BadSide : ℕ → Type 0
+BadSide n = (n ≡ 0) ⊎ (1024 < n) ⊎ (n % 4 ≡ 0 → ⊥)
+
+-- 6
+abbrev pub Missing : ℕ → ℕ → ℕ → ℕ → Type 0
+Missing width height column row = (width / 4 ≤ column) ⊎ (height / 4 ≤ row)
+
+-- 7, with the lowest index
+pub record LowestNan (samples : List Float) (i : ℕ) : Type 0 where
+  pub within : i < length samples
+  pub there : isNan (pixelAt samples i) ≡ true
+  pub none-lower : (j : ℕ) → j < i → isNan (pixelAt samples j) ≡ false
+
+-- q is this refusal, and the condition holds
+abbrev pub When : Refusal → Refusal → Type 0 → Type 0
+When q refusal condition = (q ≡ refusal) × condition
+
+abbrev pub WhenNan : Refusal → List Float → Type 0
+WhenNan q samples = (i : ℕ) × (q ≡ SampleIsNan i) × LowestNan samples i
+
+abbrev pub WhenUnequal : Refusal → Refusal → ℕ → ℕ → Type 0
+WhenUnequal q refusal m n = When q refusal (m ≡ n → ⊥)
+
+-- ---- which conditions each call looks at: 2, 7
+abbrev pub EncodeRefuses : List Float → Refusal → Type 0
+EncodeRefuses samples q = WhenUnequal q SampleCount (length samples) 16 ⊎ WhenNan q samples
+
+-- 3
+abbrev pub DecodeRefuses : List ℕ → Refusal → Type 0
+DecodeRefuses encoded q = WhenUnequal q EncodedLength (length encoded) 8
+
+-- 2, 3, 7
+abbrev pub ErrorRefuses : List Float → List ℕ → Refusal → Type 0
+ErrorRefuses samples encoded q = WhenUnequal q SampleCount (length samples) 16 ⊎ WhenUnequal q EncodedLength (length encoded) 8 ⊎ WhenNan q samples
+
+-- 2, 3, 5, 7
+abbrev pub ResendRefuses : List Float → List ℕ → Options → Refusal → Type 0
+ResendRefuses samples held o q =
+    WhenUnequal q SampleCount (length samples) 16
+    ⊎ WhenUnequal q EncodedLength (length held) 8
+    ⊎ When q DitheredResend (o .dither ≡ true)
+    ⊎ WhenNan q samples
+
+-- 1, 2, 4, 7
+abbrev pub TileRefuses : List Float → ℕ → ℕ → List ℕ → Refusal → Type 0
+TileRefuses samples width height out q =
+    When q Size (BadSide width ⊎ BadSide height)
+    ⊎ WhenUnequal q SampleCount (length samples) (width * height)
+    ⊎ When q OutputLength (length out < width * height / 2)
+    ⊎ WhenNan q samples
+
+-- 1, 3, 6
+abbrev pub ViewRefuses : List ℕ → ℕ → ℕ → ℕ → ℕ → Refusal → Type 0
+ViewRefuses tile width height column row q =
+    When q Size (BadSide width ⊎ BadSide height)
+    ⊎ WhenUnequal q EncodedLength (length tile) (width * height / 2)
+    ⊎ When q NoSuchBlock (Missing width height column row)
+
+-- of a record whose word is malformed: 8, after 2 and 7
+abbrev pub RecordRefuses : List Float → Refusal → Type 0
+RecordRefuses samples q = WhenUnequal q SampleCount (length samples) 16 ⊎ WhenNan q samples ⊎ When q WordMalformed (Unit {0})
+
+-- ---- the answers' refusals
+abbrev pub ofEncoded : Encoded → Checked
+ofEncoded (Block b) = Passed
+ofEncoded (NotEncoded q) = Refused q
+
+abbrev pub ofScored : Scored → Checked
+ofScored (Error e) = Passed
+ofScored (NotScored q) = Refused q
+
+abbrev pub ofResent : Resent → Checked
+ofResent (Answered h) = Passed
+ofResent (NotResent q) = Refused q
+
+abbrev pub ofTiled : Tiled → Checked
+ofTiled (Written n) = Passed
+ofTiled (NotTiled q) = Refused q
+
+-- ---- exactly when
+abbrev pub Iff : Type 0 → Type 0 → Type 0
+Iff P Q = (P → Q) × (Q → P)
+
+-- Refusal q is given if and only if its condition holds and that of no lower number does; none is given if and only if no condition holds.
+pub record Exactly (answer : Checked) (Refuses : Refusal → Type 0) : Type 0 where
+  pub refused : (q : Refusal) → Iff (answer ≡ Refused q) (Refuses q × ((p : Refusal) → Refuses p → numberOf p < numberOf q → ⊥))
+  pub passed : Iff (answer ≡ Passed) ((q : Refusal) → Refuses q → ⊥)
+
+pub record Demand1 : Type 0 where
+  pub encode : (samples : List Float) (o : Options) → Exactly (ofEncoded (encodeAnswer samples o)) (EncodeRefuses samples)
+  pub decode : (encoded : List ℕ) → Exactly (lowest (decodeChecks encoded)) (DecodeRefuses encoded)
+  pub error : (samples : List Float) (encoded : List ℕ) (snorm : Bool) → Exactly (ofScored (errorAnswer samples encoded snorm)) (ErrorRefuses samples encoded)
+  pub resend : (samples : List Float) (held : List ℕ) (o : Options) → Exactly (ofResent (resendAnswer samples held o)) (ResendRefuses samples held o)
+  pub tile : (samples : List Float) (width height : ℕ) (out : List ℕ)
+      → Exactly (ofTiled (tileAnswer samples width height (length out))) (TileRefuses samples width height out)
+  pub view : (tile : List ℕ) (width height column row : ℕ)
+      → Exactly (lowest (viewChecks (length tile) width height column row)) (ViewRefuses tile width height column row)
+  pub malformed : (samples : List Float) → Exactly (Refused (orMalformed (lowest (encodeChecks samples)))) (RecordRefuses samples)
+  -- a refused call leaves lent memory as it was, and a refused view is empty
+  pub decode-leaves : (q : Refusal) (snorm : Bool) (encoded : List ℕ) (before : List Float) → samplesAfter (Refused q) snorm encoded before ≡ before
+  pub tile-leaves : (q : Refusal) (samples : List Float) (width height : ℕ) (o : Options) (before : List ℕ)
+      → outAfter (NotTiled q) samples width height o before ≡ before
+  pub view-empty : (q : Refusal) (tile : List ℕ) (width height column row : ℕ)
+      → lowest (viewChecks (length tile) width height column row) ≡ Refused q → viewOf tile width height column row ≡ []
