@@ -1,4 +1,5 @@
 pub mod Nans
 pub mod Lowest
 pub mod Views
+pub mod Resends
 pub mod Determined

@@ -34,11 +34,11 @@ use Rattle.encode.proofs.Covered.{search-written, search-none-smaller, search-f
 use Rattle.decode.specs.BlockError.{blockError}
 use Rattle.decode.proofs.Laws.{error-of-bytes}
 use Rattle.decode.proofs.Finite.{blockError-within}
-use Rattle.bc4.specs.declared.Held.{Held as Kept}
 use Rattle.bc4.specs.declared.refusal.Checked.{Checked}
 use Rattle.bc4.specs.declared.refusal.Checked.the-variants.{Passed, Refused}
 use Rattle.bc4.specs.Refusals.{lowest, resendChecks}
 use Rattle.bc4.specs.Calls.{betterOf, resentOn, resendAnswer}
+use Rattle.bc4.proofs.Resends.{stays-or-replaced}
 use Rattle.demands.specs.Demand3.{errorOf, endsUnder, Limits, NoLarger, heldAfter, series, AllIn, StaysOrBetter, Demand3}
 
 -- ---- limits
@@ -89,18 +89,16 @@ finite kind s p l = error-within kind (entered s) (p .0) (p .1) (l .first) (l .s
 
 -- ---- resends
 one-resend : (s : List Float) (held : List ℕ) (o : Options) → StaysOrBetter (o .snorm) s held (heldAfter held (resendAnswer s held o))
-unfolding resentOn betterOf
+unfolding resentOn
 one-resend s held o = go (lowest (resendChecks s held o))
   where
     go : (c : Checked) → StaysOrBetter (o .snorm) s held (heldAfter held (resentOn c s held o))
     go (Refused q) = inl refl
-    go Passed = by (lt (blockError (o .snorm) s (compressed s o)) (blockError (o .snorm) s (fromBytes held))) refl
-      where
-        by : (t : Bool) → lt (blockError (o .snorm) s (compressed s o)) (blockError (o .snorm) s (fromBytes held)) ≡ t
-            → StaysOrBetter (o .snorm) s held (cond (cond {A = Kept} t (record { block = compressed s o; fresh = true }) (record { block = fromBytes held; fresh = false }) .fresh)
-            (bytesOf (cond {A = Kept} t (record { block = compressed s o; fresh = true }) (record { block = fromBytes held; fresh = false }) .block)) held)
-        by true e = inr (rw (error-of-bytes (o .snorm) s (compressed s o)) e)
-        by false e = inl refl
+    go Passed =
+        elim (stays-or-replaced s (fromBytes held) o) [
+          | inl x ↦ inl (rw (x .1))
+          | inr y ↦ inr (rw (y .1, error-of-bytes (o .snorm) s (betterOf s (fromBytes held) o .block)) (y .2))
+        ]
 
 stays-trans : (snorm : Bool) (s : List Float) (l m n : List ℕ) → StaysOrBetter snorm s l m → StaysOrBetter snorm s m n → StaysOrBetter snorm s l n
 stays-trans snorm s l m n (inl p) q = subst (λ (x : List ℕ). StaysOrBetter snorm s x n) p q
