@@ -19,8 +19,8 @@ use Rattle.lines.specs.declared.input.Word.{Word}
 use Rattle.lines.specs.declared.input.Word.the-variants.{Formed, Malformed}
 
 -- byte k of a record
-abbrev pub byteAt : List ℕ → ℕ → ℕ
-byteAt bytes k = getD bytes k 0
+abbrev pub recordByte : List ℕ → ℕ → ℕ
+recordByte bytes k = getD bytes k 0
 
 -- ---- the word
 
@@ -49,13 +49,13 @@ byQuality o quality =
     (cond (eqb quality 1) (Formed (o MediumQuality)) (cond (eqb quality 2) (Formed (o HighQuality)) Malformed))
 
 unfoldable pub wordOf : List ℕ → Word
-wordOf bytes = cond (eqb (byteAt bytes 3) 0) (byQuality (optionsOf (byteAt bytes 0) (byteAt bytes 1)) (byteAt bytes 2)) Malformed
+wordOf bytes = cond (eqb (recordByte bytes 3) 0) (byQuality (optionsOf (recordByte bytes 0) (recordByte bytes 1)) (recordByte bytes 2)) Malformed
 
 -- ---- the samples
 
 -- four bytes, little-endian
 unfoldable pub fourBytes : List ℕ → ℕ → ℕ
-fourBytes bytes at = byteAt bytes at + 2 ^ 8 * (byteAt bytes (at + 1) + 2 ^ 8 * (byteAt bytes (at + 2) + 2 ^ 8 * byteAt bytes (at + 3)))
+fourBytes bytes at = recordByte bytes at + 2 ^ 8 * (recordByte bytes (at + 1) + 2 ^ 8 * (recordByte bytes (at + 2) + 2 ^ 8 * recordByte bytes (at + 3)))
 
 -- the bits of sample i
 abbrev pub patternAt : List ℕ → ℕ → ℕ

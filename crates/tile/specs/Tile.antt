@@ -10,12 +10,12 @@ use Rattle.encode.specs.Encoder.{compressed}
 use Rattle.tile.specs.Place.{along}
 
 -- where pixel i of a block stands among the samples
-abbrev pub sampleAt : ℕ → ℕ → ℕ → ℕ → ℕ
-sampleAt width column row i = (4 * row + i / 4) * width + (4 * column + i % 4)
+abbrev pub sampleIndex : ℕ → ℕ → ℕ → ℕ → ℕ
+sampleIndex width column row i = (4 * row + i / 4) * width + (4 * column + i % 4)
 
 -- a block's own sixteen samples
 unfoldable pub blockOf : List Float → ℕ → ℕ → ℕ → List Float
-blockOf samples width column row = perPixel (λ i. pixelAt samples (sampleAt width column row i))
+blockOf samples width column row = perPixel (λ i. pixelAt samples (sampleIndex width column row i))
 
 -- the bytes of the first n blocks of a row
 unfoldable pub rowBytes : List Float → ℕ → Options → ℕ → ℕ → List ℕ

@@ -7,13 +7,13 @@ use lib.Ieee.{nan}
 use borrow.Author.Needs.{needs}
 use Rattle.block.specs.Samples.{pixelAt}
 use Rattle.block.proofs.Fill.{Filled, fill-start, fill-step, fill-end}
-use Rattle.tile.specs.Tile.{sampleAt, blockOf}
+use Rattle.tile.specs.Tile.{sampleIndex, blockOf}
 use Rattle.tile.proofs.Samples.{sample-within}
 use Rattle.tile.proofs.gather.Statement.{statement}
 use Rattle.tile.proofs.gather.Tie as tie
 
 abbrev Inv-loop : tie.InvT-loop
-Inv-loop samples width column row b₀ i₀ b i = (i ≤ 16) × Filled nan (λ (k : ℕ). pixelAt samples (sampleAt width column row k)) 16 b i
+Inv-loop samples width column row b₀ i₀ b i = (i ≤ 16) × Filled nan (λ (k : ℕ). pixelAt samples (sampleIndex width column row k)) 16 b i
 
 abbrev μ-loop : tie.MeasureT-loop
 μ-loop samples width column row b₀ i₀ b i = 16 - i
@@ -25,7 +25,7 @@ loop-holds c = (search needs, fill-start nan _ 16 _ refl)
 Room : tie.In-loop Inv-loop μ-loop → Type 0
 Room c =
     let a = c .before .before .args in
-    (4 * a .row + 4 ≤ length (now (a .samples))) × (sampleAt (a .width) (a .column) (a .row) (c .before .loop .i) < length (now (a .samples)))
+    (4 * a .row + 4 ≤ length (now (a .samples))) × (sampleIndex (a .width) (a .column) (a .row) (c .before .loop .i) < length (now (a .samples)))
 
 room : (c : tie.In-loop Inv-loop μ-loop) → Room c
 unfolding Room
