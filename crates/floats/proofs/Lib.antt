@@ -12,6 +12,7 @@ pub mod Ranges
 pub mod Monotone
 pub mod Exactly
 pub mod Squares
+pub mod NotBelow
 pub mod Distances
 pub mod Bounds
 pub mod Rounding
