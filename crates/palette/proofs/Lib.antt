@@ -1,4 +1,5 @@
 pub mod LeastSquare
 pub mod EightValues
 pub mod Finite
+pub mod ErrorFloor
 pub mod ClosestLaws

@@ -1,0 +1,77 @@
+-- A floor of the palette error: for each sample a value that none of its eight squared distances is below, and these summed in the error's order.
+-- It holds with a NaN anywhere. Assumes nothing.
+use mathlib.Core.Path.{_≡_, sym, subst}
+use mathlib.Core.Bool.{Bool, true, false, cond}
+use mathlib.Core.List.{List}
+use Prim.Native.Nat.{ℕ, zero, suc, _<_}
+use native.Mathlib.Omega.{arith}
+use lib.Ieee.{Float, lt}
+use Rattle.floats.specs.Arithmetic.{_⊕_, _⊖_, squared}
+use Rattle.floats.specs.Helpers.{laneMin}
+use Rattle.floats.proofs.Squares.{Plain, squared-plain, add-plain}
+use Rattle.floats.proofs.NotBelow.{add-not-below}
+use Rattle.block.specs.Samples.{pixelAt, tabulate, perPixel}
+use Rattle.block.specs.Orders.{downLane, laneSum, sumInOrder}
+use Rattle.palette.specs.declared.Kind.{Kind}
+use Rattle.palette.specs.Palettes.{entry, valuesOf}
+use Rattle.palette.specs.PaletteError.{leastTo, nearerSquare, leastSquareTo, miss, paletteError}
+use Rattle.palette.proofs.LeastSquare.{miss-is}
+
+-- ---- one sample
+picked : (a b m : Float) → lt a m ≡ false → lt b m ≡ false → lt (laneMin a b) m ≡ false
+picked a b m p q = go (lt a b)
+  where
+    go : (t : Bool) → lt (cond t a b) m ≡ false
+    go true = p
+    go false = q
+
+module _ (v : List Float) (p m : Float) (each : (k : ℕ) → k < 8 → lt (squared (entry v k ⊖ p)) m ≡ false) where
+  least-floor : (k : ℕ) → k < 8 → lt (leastSquareTo v p k) m ≡ false
+  unfolding leastSquareTo nearerSquare
+  least-floor zero h = each 0 h
+  least-floor (suc k) h = picked (leastSquareTo v p k) (squared (entry v (suc k) ⊖ p)) m (least-floor k (omega arith)) (each (suc k) h)
+
+  miss-floor : lt (miss v p) m ≡ false
+  miss-floor = rw (miss-is v p) (least-floor 7 (omega arith))
+
+-- ---- the sum. Neither is negative, and x is not below y
+pub record Over (x y : Float) : Type 0 where
+  pub left : Plain x
+  pub right : Plain y
+  pub over : lt x y ≡ false
+
+both : (x y z w : Float) → Over x y → Over z w → Over (x ⊕ z) (y ⊕ w)
+both x y z w p q = record {
+  left = add-plain x z (p .left) (q .left);
+  right = add-plain y w (p .right) (q .right);
+  over = add-not-below x y z w (p .left) (p .right) (q .left) (q .right) (p .over) (q .over);
+}
+
+four : (a b c d x y z w : Float) → Over a x → Over b y → Over c z → Over d w → Over (a ⊕ b ⊕ c ⊕ d) (x ⊕ y ⊕ z ⊕ w)
+four a b c d x y z w A B C D = both (a ⊕ b ⊕ c) (x ⊕ y ⊕ z) d w (both (a ⊕ b) (x ⊕ y) c z (both a x b y A B) C) D
+
+sum-over : (f g : ℕ → Float) → ((i : ℕ) → i < 16 → Over (f i) (g i)) → Over (sumInOrder (perPixel f)) (sumInOrder (perPixel g))
+unfolding sumInOrder laneSum downLane tabulate
+sum-over f g each =
+    four _ _ _ _ _ _ _ _
+    (four (f 0) (f 4) (f 8) (f 12) (g 0) (g 4) (g 8) (g 12) (each 0 (omega arith)) (each 4 (omega arith)) (each 8 (omega arith)) (each 12 (omega arith)))
+    (four (f 1) (f 5) (f 9) (f 13) (g 1) (g 5) (g 9) (g 13) (each 1 (omega arith)) (each 5 (omega arith)) (each 9 (omega arith)) (each 13 (omega arith)))
+    (four (f 2) (f 6) (f 10) (f 14) (g 2) (g 6) (g 10) (g 14) (each 2 (omega arith)) (each 6 (omega arith)) (each 10 (omega arith)) (each 14 (omega arith)))
+    (four (f 3) (f 7) (f 11) (f 15) (g 3) (g 7) (g 11) (g 15) (each 3 (omega arith)) (each 7 (omega arith)) (each 11 (omega arith)) (each 15 (omega arith)))
+
+miss-plain : (v : List Float) (p : Float) → Plain (miss v p)
+unfolding miss
+miss-plain v p = squared-plain (leastTo v p 7)
+
+pub error-floor : (kind : Kind) (b : List Float) (c0 c1 : Float) (floor : ℕ → Float) → ((i : ℕ) → Plain (floor i))
+    → ((i k : ℕ) → i < 16 → k < 8 → lt (squared (entry (valuesOf kind c0 c1) k ⊖ pixelAt b i)) (floor i) ≡ false)
+    → lt (paletteError kind b c0 c1) (sumInOrder (perPixel floor)) ≡ false
+unfolding paletteError
+error-floor kind b c0 c1 floor plain each =
+    sum-over (λ i. miss (valuesOf kind c0 c1) (pixelAt b i)) floor
+    (λ i h. record {
+      left = miss-plain (valuesOf kind c0 c1) (pixelAt b i);
+      right = plain i;
+      over = miss-floor (valuesOf kind c0 c1) (pixelAt b i) (floor i) (λ k l. each i k h l);
+    })
+    .over
