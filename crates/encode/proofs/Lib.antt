@@ -1,4 +1,5 @@
 pub mod Steps
 pub mod Middle
+pub mod Between
 pub mod EveryPair
 pub mod Covered
