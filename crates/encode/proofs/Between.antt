@@ -216,29 +216,65 @@ part7 = record { q = 1; c = 1; above = lit< tt; small = lit≤ tt; val = (refl, 
 parts41 : Parts fifth4 fifth1
 unfolding ofBits
 parts41 = record {
-  q = 13421773; c = 16777216; q' = 13421773; c' = 67108864; above = lit< tt; above' = lit< tt; small = lit≤ tt; small' = lit≤ tt;
-  val = (refl, refl); val' = (refl, refl); off = λ t a b p r h A o k. (omega arith, omega arith);
+  q = 13421773;
+  c = 16777216;
+  q' = 13421773;
+  c' = 67108864;
+  above = lit< tt;
+  above' = lit< tt;
+  small = lit≤ tt;
+  small' = lit≤ tt;
+  val = (refl, refl);
+  val' = (refl, refl);
+  off = λ t a b p r h A o k. (omega arith, omega arith);
 }
 
 parts32 : Parts fifth3 fifth2
 unfolding ofBits
 parts32 = record {
-  q = 10066330; c = 16777216; q' = 13421773; c' = 33554432; above = lit< tt; above' = lit< tt; small = lit≤ tt; small' = lit≤ tt;
-  val = (refl, refl); val' = (refl, refl); off = λ t a b p r h A o k. (omega arith, omega arith);
+  q = 10066330;
+  c = 16777216;
+  q' = 13421773;
+  c' = 33554432;
+  above = lit< tt;
+  above' = lit< tt;
+  small = lit≤ tt;
+  small' = lit≤ tt;
+  val = (refl, refl);
+  val' = (refl, refl);
+  off = λ t a b p r h A o k. (omega arith, omega arith);
 }
 
 parts23 : Parts fifth2 fifth3
 unfolding ofBits
 parts23 = record {
-  q = 13421773; c = 33554432; q' = 10066330; c' = 16777216; above = lit< tt; above' = lit< tt; small = lit≤ tt; small' = lit≤ tt;
-  val = (refl, refl); val' = (refl, refl); off = λ t a b p r h A o k. (omega arith, omega arith);
+  q = 13421773;
+  c = 33554432;
+  q' = 10066330;
+  c' = 16777216;
+  above = lit< tt;
+  above' = lit< tt;
+  small = lit≤ tt;
+  small' = lit≤ tt;
+  val = (refl, refl);
+  val' = (refl, refl);
+  off = λ t a b p r h A o k. (omega arith, omega arith);
 }
 
 parts14 : Parts fifth1 fifth4
 unfolding ofBits
 parts14 = record {
-  q = 13421773; c = 67108864; q' = 13421773; c' = 16777216; above = lit< tt; above' = lit< tt; small = lit≤ tt; small' = lit≤ tt;
-  val = (refl, refl); val' = (refl, refl); off = λ t a b p r h A o k. (omega arith, omega arith);
+  q = 13421773;
+  c = 67108864;
+  q' = 13421773;
+  c' = 16777216;
+  above = lit< tt;
+  above' = lit< tt;
+  small = lit≤ tt;
+  small' = lit≤ tt;
+  val = (refl, refl);
+  val' = (refl, refl);
+  off = λ t a b p r h A o k. (omega arith, omega arith);
 }
 
 module _ (min max : ℕ) (h : min < max) (l : max ≤ 255) where

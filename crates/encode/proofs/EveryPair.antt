@@ -72,7 +72,7 @@ module _ (b : List Float) where
   pair-is best min max = refl
 
   -- ---- over all pairs: what each pair keeps is kept,
-  maxes-keep : (P : Coded → Type 0) (min first n : ℕ) → ((h : Coded) (max : ℕ) → first ≤ max → max < first + n → P h → P (pairTried b h min max))
+  pub maxes-keep : (P : Coded → Type 0) (min first n : ℕ) → ((h : Coded) (max : ℕ) → first ≤ max → max < first + n → P h → P (pairTried b h min max))
       → (best : Coded) → P best → P (maxesTried b best min first n)
   unfolding maxesTried
   maxes-keep P min first zero keep best p = p

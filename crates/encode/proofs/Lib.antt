@@ -2,4 +2,5 @@ pub mod Steps
 pub mod Middle
 pub mod Between
 pub mod EveryPair
+pub mod PassedOver
 pub mod Covered

@@ -5,6 +5,7 @@ ghost use mathlib.Core.Bool.{true};
 ghost use lib.Ieee.{le};
 ghost use Rattle.floats.specs.Arithmetic.{f0, f1};
 
+mod floor;
 mod search;
 mod single;
 

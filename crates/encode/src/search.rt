@@ -1,7 +1,13 @@
 // reference_brute_force.
 ghost use mathlib.Core.Path.{_≡_};
 ghost use Prim.Native.Nat.{_<_, _≤_, _-_};
+ghost use mathlib.Core.Bool.{false};
+ghost use lib.Ieee.{lt};
+ghost use Rattle.palette.specs.declared.Kind.{Kind as KindOf};
+ghost use Rattle.encode.specs.Covered.{pairError};
+ghost use Rattle.encode.specs.Floor.{maxFloors};
 ghost use Rattle.encode.specs.Search.{tried6 as tried6Of, tried4 as tried4Of, pairTried, maxesTried, minsTried, firstMax, minLimit, leastMax, searched};
+use crate::floor;
 use compress::coding::Coded;
 use end_points::EndPoints;
 use floats::Pair;
@@ -35,27 +41,43 @@ fn tried4(b: &[f32; 16], best: Coded, e: EndPoints) -> Coded
     best
 }
 
-fn pair_tried(b: &[f32; 16], best: Coded, min: u8, max: u8) -> Coded
+// Neither error of the pair is below the floor, so where what is held is not above it, nothing has to be tried.
+fn pair_tried(b: &[f32; 16], floor: f32, best: Coded, min: u8, max: u8) -> Coded
+    requires { ⌜ ((kind : KindOf) → lt (pairError kind (now b) min max) floor ≡ false) ⌝ }
     ensures { λ r. ⌜ r ≡ pairTried (now (b .entry)) best min max ⌝ }
 {
+    if floor >= best.error {
+        return best;
+    }
     let e = EndPoints::new_inter6_unorm(max, min);
     tried4(b, tried6(b, best, e), e.inter6_to_inter4())
 }
 
-fn maxes_tried(b: &[f32; 16], start: Coded, min: u8, first: u32) -> Coded
-    requires { ⌜ first ≤ 256 ⌝ }
+fn maxes_tried(b: &[f32; 16], floors: &[f32; 256], start: Coded, min: u8, first: u32) -> Coded
+    requires { ⌜ (now floors ≡ maxFloors (now b)) × (min < first) × (first ≤ 256) ⌝ }
     ensures { λ r. ⌜ r ≡ maxesTried (now (b .entry)) start min first (256 - first) ⌝ }
 {
     let mut best = start;
     for max in first..256u32 {
-        best = pair_tried(b, best, min, max as u8);
+        let at = max as usize;
+        best = pair_tried(b, floors[at], best, min, max as u8);
     }
     best
 }
 
+fn min_tried(b: &[f32; 16], floors: &[f32; 256], best: Coded, min: u8, first: u32) -> Coded
+    requires { ⌜ (now floors ≡ maxFloors (now b)) × (min < first) × (first ≤ 256) ⌝ }
+    ensures { λ r. ⌜ r ≡ maxesTried (now (b .entry)) best min first (256 - first) ⌝ }
+{
+    if floor::min_floor(b, min) >= best.error {
+        return best;
+    }
+    maxes_tried(b, floors, best, min, first)
+}
+
 fn first_max(least: u32, min: u32) -> u32
     requires { ⌜ (least < 256) × (min < 255) ⌝ }
-    ensures { λ r. ⌜ (r ≡ firstMax least min) × (r ≤ 256) ⌝ }
+    ensures { λ r. ⌜ (r ≡ firstMax least min) × (min < r) × (r ≤ 256) ⌝ }
 {
     if least < min + 1 {
         return min + 1;
@@ -63,13 +85,13 @@ fn first_max(least: u32, min: u32) -> u32
     least
 }
 
-fn mins_tried(b: &[f32; 16], least: u32, start: Coded, limit: u32) -> Coded
-    requires { ⌜ (least < 256) × (limit < 256) ⌝ }
+fn mins_tried(b: &[f32; 16], floors: &[f32; 256], least: u32, start: Coded, limit: u32) -> Coded
+    requires { ⌜ (now floors ≡ maxFloors (now b)) × (least < 256) × (limit < 256) ⌝ }
     ensures { λ r. ⌜ r ≡ minsTried (now (b .entry)) least start limit ⌝ }
 {
     let mut best = start;
     for min in 0..limit {
-        best = maxes_tried(b, best, min as u8, first_max(least, min));
+        best = min_tried(b, floors, best, min as u8, first_max(least, min));
     }
     best
 }
@@ -83,5 +105,6 @@ pub fn reference_brute_force(b: &[f32; 16], p: Pair) -> u64
         bytes: 0,
         error: f32::from_bits(0x7f80_0000),
     };
-    mins_tried(b, least as u32, start, limit as u32).bytes
+    let floors = floor::max_floors(b);
+    mins_tried(b, &floors, least as u32, start, limit as u32).bytes
 }

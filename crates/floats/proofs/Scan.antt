@@ -21,7 +21,7 @@ laneMin-under y a b p q = go (lt a b)
     go false = q
 
 -- what is not below the best is not below a better one
-laneMin-keeps : (y x a : Float) → lt y a ≡ false → lt y (laneMin x a) ≡ false
+pub laneMin-keeps : (y x a : Float) → lt y a ≡ false → lt y (laneMin x a) ≡ false
 laneMin-keeps y x a h = go (lt x a) refl
   where
     go : (t : Bool) → lt x a ≡ t → lt y (cond t x a) ≡ false
@@ -29,7 +29,7 @@ laneMin-keeps y x a h = go (lt x a) refl
     go false e = h
 
 -- the one that is scanned is not below the best after it
-laneMin-passed : (x a : Float) → lt x (laneMin x a) ≡ false
+pub laneMin-passed : (x a : Float) → lt x (laneMin x a) ≡ false
 laneMin-passed x a = go (lt x a) refl
   where
     go : (t : Bool) → lt x a ≡ t → lt x (cond t x a) ≡ false

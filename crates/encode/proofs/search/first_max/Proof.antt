@@ -11,10 +11,10 @@ add-result : tie.Need-add-result
 add-result c = search needs
 
 returns : tie.Need-returns
-returns c = (rw (lt-ltb _ _ (c .if1 .taken)), omega arith)
+returns c = (rw (lt-ltb _ _ (c .if1 .taken)), omega arith, omega arith)
 
 returns-2 : tie.Need-returns-2
-returns-2 c = (rw (le-ltb _ _ (c .if1 .left)), omega arith)
+returns-2 c = (rw (le-ltb _ _ (c .if1 .left)), omega (arith, c .if1 .left), omega arith)
 
 pub first-max-spec : {M : Type 1} → statement M
 first-max-spec = tie.close (tie.spec add-if1 add-result returns returns-2)

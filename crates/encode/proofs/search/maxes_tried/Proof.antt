@@ -4,23 +4,40 @@ use native.Mathlib.Omega.{arith}
 use borrow.Author.Needs.{needs}
 use Rattle.encode.specs.Search.{maxesTried}
 use Rattle.encode.proofs.Steps.{maxes-none, maxes-more}
+use Rattle.block.proofs.Fill.{getD-tabulate}
+use Rattle.encode.specs.Floor.{maxFloor}
+use Rattle.encode.proofs.PassedOver.{max-floor}
+use lib.Ieee.{nan}
 use Rattle.encode.proofs.search.maxes_tried.Statement.{statement}
 use Rattle.encode.proofs.search.maxes_tried.Tie as tie
 
 abbrev Inv-loop : tie.InvT-loop
-Inv-loop b min first best₀ max₀ best max = (first ≤ max) × (max ≤ 256) × (best ≡ maxesTried b best₀ min first (max - first))
+Inv-loop b floors min first best₀ max₀ best max = (first ≤ max) × (max ≤ 256) × (best ≡ maxesTried b best₀ min first (max - first))
 
 abbrev μ-loop : tie.MeasureT-loop
-μ-loop b min first best₀ max₀ best max = 256 - max
+μ-loop b floors min first best₀ max₀ best max = 256 - max
 
 loop-holds : tie.Need-loop-holds Inv-loop μ-loop
 loop-holds c = (search needs, search needs, sym (maxes-none (c .args .b .now) (c .args .start) (c .args .min) (c .args .first)))
+
+cast-at : tie.Need-cast-at Inv-loop μ-loop
+cast-at c = search needs
+
+mul-pair-tried : tie.Need-mul-pair-tried Inv-loop μ-loop
+mul-pair-tried c = search needs
+
+element-copy-out-pair-tried : tie.Need-element-copy-out-pair-tried Inv-loop μ-loop
+element-copy-out-pair-tried c = search needs
 
 cast-pair-tried : tie.Need-cast-pair-tried Inv-loop μ-loop
 cast-pair-tried c = search needs
 
 pair-tried-requires : tie.Need-pair-tried-requires Inv-loop μ-loop
-pair-tried-requires c κs = search needs
+pair-tried-requires c κs =
+    let h = c .before .before in
+    let a = h .before .args in
+    λ kind. rw (h .before .pre .0, getD-tabulate (maxFloor (a .b .now)) nan 256 (h .loop .max) (c .before .loop-test .taken))
+    (max-floor (a .b .now) (a .min) (h .loop .max) (omega arith) (omega arith) kind)
 
 add-max : tie.Need-add-max Inv-loop μ-loop
 add-max c = search needs
@@ -30,10 +47,10 @@ loop-less c = omega arith
 
 loop-again : tie.Need-loop-again Inv-loop μ-loop
 loop-again c =
-    let h = c .before .before in
+    let h = c .before .before .before in
     let a = h .before .args in (
       omega (arith, h .loop .inv .0),
-      omega (arith, c .before .loop-test .taken),
+      omega (arith, c .before .before .loop-test .taken),
       rw (c .pair-tried .ensures, h .loop .inv .2) (sym (maxes-more (a .b .now) (a .start) (a .min) (a .first) (h .loop .max) (h .loop .inv .0))),
     )
 
@@ -50,6 +67,9 @@ maxes-tried-spec =
     Inv-loop
     μ-loop
     loop-holds
+    cast-at
+    mul-pair-tried
+    element-copy-out-pair-tried
     cast-pair-tried
     pair-tried-requires
     add-max

@@ -8,23 +8,23 @@ use Rattle.encode.proofs.search.mins_tried.Statement.{statement}
 use Rattle.encode.proofs.search.mins_tried.Tie as tie
 
 abbrev Inv-loop : tie.InvT-loop
-Inv-loop b least limit best₀ min₀ best min = (min ≤ limit) × (best ≡ minsTried b least best₀ min)
+Inv-loop b floors least limit best₀ min₀ best min = (min ≤ limit) × (best ≡ minsTried b least best₀ min)
 
 abbrev μ-loop : tie.MeasureT-loop
-μ-loop b least limit best₀ min₀ best min = limit - min
+μ-loop b floors least limit best₀ min₀ best min = limit - min
 
 loop-holds : tie.Need-loop-holds Inv-loop μ-loop
 unfolding minsTried
 loop-holds c = (search needs, refl)
 
-cast-maxes-tried : tie.Need-cast-maxes-tried Inv-loop μ-loop
-cast-maxes-tried c = search needs
+cast-min-tried : tie.Need-cast-min-tried Inv-loop μ-loop
+cast-min-tried c = search needs
 
 first-max-requires : tie.Need-first-max-requires Inv-loop μ-loop
 first-max-requires c κs = search needs
 
-maxes-tried-requires : tie.Need-maxes-tried-requires Inv-loop μ-loop
-maxes-tried-requires c κs = search needs
+min-tried-requires : tie.Need-min-tried-requires Inv-loop μ-loop
+min-tried-requires c κs = search needs
 
 add-min : tie.Need-add-min Inv-loop μ-loop
 add-min c = search needs
@@ -38,7 +38,7 @@ loop-again c =
     let h = m .before .before in
     let a = h .before .args in (
       omega (arith, m .before .loop-test .taken),
-      rw (c .maxes-tried .ensures, m .first-max .ensures .0, h .loop .inv .1) (sym (mins-more (a .b .now) (a .least) (a .start) (h .loop .min) (h .loop .min + 1) (omega arith))),
+      rw (c .min-tried .ensures, m .first-max .ensures .0, h .loop .inv .1) (sym (mins-more (a .b .now) (a .least) (a .start) (h .loop .min) (h .loop .min + 1) (omega arith))),
     )
 
 returns : tie.Need-returns Inv-loop μ-loop
@@ -54,9 +54,9 @@ mins-tried-spec =
     Inv-loop
     μ-loop
     loop-holds
-    cast-maxes-tried
+    cast-min-tried
     first-max-requires
-    maxes-tried-requires
+    min-tried-requires
     add-min
     loop-less
     loop-again

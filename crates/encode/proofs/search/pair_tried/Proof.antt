@@ -1,7 +1,15 @@
+use mathlib.Core.Path.{sym}
 use Rattle.encode.specs.Search.{pairTried}
+use Rattle.encode.proofs.PassedOver.{pair-passed}
 use borrow.Author.Needs.{needs}
 use Rattle.encode.proofs.search.pair_tried.Statement.{statement}
 use Rattle.encode.proofs.search.pair_tried.Tie as tie
+
+returns : tie.Need-returns
+returns c =
+    let h = c .before .before in
+    let a = h .args in
+    sym (pair-passed (a .b .now) (a .best) (a .floor) (a .min) (a .max) (c .if1 .taken) (h .pre))
 
 new-inter6-unorm-requires : tie.Need-new-inter6-unorm-requires
 new-inter6-unorm-requires c κs = search needs
@@ -15,16 +23,17 @@ inter6-to-inter4-requires c κs = search needs
 tried4-requires : tie.Need-tried4-requires
 tried4-requires c κs = search needs
 
-returns : tie.Need-returns
+returns-2 : tie.Need-returns-2
 unfolding pairTried
-returns c = rw (c .tried4 .ensures, c .before .inter6-to-inter4 .ensures, c .before .before .tried6 .ensures, c .before .before .before .new-inter6-unorm .ensures)
+returns-2 c = rw (c .tried4 .ensures, c .before .inter6-to-inter4 .ensures, c .before .before .tried6 .ensures, c .before .before .before .new-inter6-unorm .ensures)
 
 pub pair-tried-spec : {M : Type 1} → statement M
 pair-tried-spec =
     tie.close
     (tie.spec
+    returns
     new-inter6-unorm-requires
     tried6-requires
     inter6-to-inter4-requires
     tried4-requires
-    returns)
+    returns-2)

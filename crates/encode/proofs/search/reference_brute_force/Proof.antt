@@ -9,9 +9,12 @@ byte-of-requires c κs = search needs
 byte-of-requires-2 : tie.Need-byte-of-requires-2
 byte-of-requires-2 c κs = search needs
 
-float-from-bits-t6 : tie.Need-float-from-bits-t6
+float-from-bits-t7 : tie.Need-float-from-bits-t7
 unfolding lib.Ieee.nanBits
-float-from-bits-t6 c = search needs
+float-from-bits-t7 c = search needs
+
+max-floors-requires : tie.Need-max-floors-requires
+max-floors-requires c κs = search needs
 
 cast-mins-tried : tie.Need-cast-mins-tried
 cast-mins-tried c = search needs
@@ -24,7 +27,9 @@ mins-tried-requires c κs = search needs
 
 returns : tie.Need-returns
 unfolding searched lib.Ieee.ofBits
-returns c = rw (c .mins-tried .ensures, c .before .byte-of2 .ensures, c .before .before .before .byte-of .ensures)
+returns c =
+    let k = c .before .before .before in
+    rw (c .mins-tried .ensures, k .byte-of2 .ensures, k .before .before .byte-of .ensures)
 
 pub reference-brute-force-spec : {M : Type 1} → statement M
 reference-brute-force-spec =
@@ -32,7 +37,8 @@ reference-brute-force-spec =
     (tie.spec
     byte-of-requires
     byte-of-requires-2
-    float-from-bits-t6
+    float-from-bits-t7
+    max-floors-requires
     cast-mins-tried
     cast-mins-tried-2
     mins-tried-requires
