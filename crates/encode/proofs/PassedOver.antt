@@ -1,7 +1,6 @@
 -- The floors that the search passes pairs over by: no palette error of a pair is below the floor of its min or of its max, in either mode. So where
 -- what is held is not above a floor, the pairs of that floor leave it as it is. Assumes nothing.
 use mathlib.Core.Path.{_≡_, refl}
-use mathlib.Core.Logic.{⊎-elim}
 use mathlib.Core.Bool.{Bool, true, false, cond}
 use mathlib.Core.List.{List}
 use Prim.Native.Nat.{ℕ, zero, suc, _+_, _≤_, _<_}
@@ -9,7 +8,7 @@ use native.Mathlib.Omega.{arith}
 use lib.Ieee.{Float, inf, mul, lt, le, ofBits}
 use Rattle.floats.specs.Arithmetic.{_⊕_, _⊖_, squared, f0, f1}
 use Rattle.floats.specs.Helpers.{laneMin}
-use Rattle.floats.proofs.Tests.{clash, either}
+use Rattle.floats.proofs.Tests.{clash}
 use Rattle.floats.proofs.Order.{lt-le-trans, le-left, le-right}
 use Rattle.floats.proofs.Scan.{laneMin-keeps, laneMin-passed}
 use Rattle.floats.proofs.Monotone.{from-bottom, to-top}

@@ -10,6 +10,7 @@ use lib.Dec.{T, ltb, eqb, eqb→eq, ltb→lt, lit<}
 use lib.Ieee.{Float, nan, inf, fin, Format, binary32, binary64, up, down, unlike, round, neg, add, sub, mul, lt, le, eq, isNan}
 use lib.Ieee.Bits.{is-true}
 use lib.Ieee.Fits.{down-pos, and-l, and-r}
+use lib.Ieee.Exact.{HasValue}
 use lib.Ieee.Order.{round-mono}
 use lib.Ieee.Positive.{positive}
 use lib.Ieee.Scale.{round-same, finite}
@@ -161,6 +162,14 @@ mul-comm f (fin s m e) (fin t n d) =
     ap₂ (λ (a c : ℕ). round f (unlike s t) a c) (n-comm (m * up e) (n * up d)) (n-comm (down e) (down d))
     ∙ ap (λ (u : Bool). round f u (n * up d * (m * up e)) (down d * down e)) (unlike-comm s t)
 
+-- ---- sums of which the fractions are known, over one denominator
+pub add-leq : (f : Format) (x y z w : Float) (s t u v : Bool) (a b c d n : ℕ) → 0 < n → HasValue x s a n → HasValue y t b n → HasValue z u c n → HasValue w v d n
+    → Leq (signOf s a t b) (gap s a t b) (signOf u c v d) (gap u c v d) → le (add f x y) (add f z w) ≡ true
+add-leq f x y z w s t u v a b c d n N X Y Z W h =
+    rw (add-at f x y s t a b n N X Y ∙ sum-is f s a t b n, add-at f z w u v c d n N Z W ∙ sum-is f u c v d n)
+    (round-leq f (signOf s a t b) (signOf u c v d) (gap s a t b) n (gap u c v d) n N N
+    (leq-scaled (signOf s a t b) (signOf u c v d) (gap s a t b) (gap u c v d) n h))
+
 -- ---- a sum with a finite term
 -- the three values over one denominator
 add-fin : (f : Format) (u : Bool) (b : ℕ) (j : ℤ) (s : Bool) (m : ℕ) (e : ℤ) (t : Bool) (n : ℕ) (d : ℤ) → le (fin s m e) (fin t n d) ≡ true
@@ -169,16 +178,11 @@ add-fin f u b j s m e t n d h =
     let P = m * up e * down d * down j in
     let Q = n * up d * down e * down j in
     let B = b * up j * (down e * down d) in
-    let C = down e * down d * down j in
-    let c : 0 < C = mul-pos (mul-pos (down-pos e) (down-pos d)) (down-pos j) in
-    let x : add f (fin s m e) (fin u b j) ≡ round f (signOf s P u B) (gap s P u B) C =
-    add-at f (fin s m e) (fin u b j) s u P B C c (refl, over (m * up e) (down e) (down d) (down j)) (refl, third (b * up j) (down e * down d) (down j)) ∙ sum-is f s P u B C in
-    let y : add f (fin t n d) (fin u b j) ≡ round f (signOf t Q u B) (gap t Q u B) C =
-    add-at f (fin t n d) (fin u b j) t u Q B C c (refl, other (n * up d) (down e) (down d) (down j)) (refl, third (b * up j) (down e * down d) (down j)) ∙ sum-is f t Q u B C in
-    rw (x, y)
-    (round-leq f (signOf s P u B) (signOf t Q u B) (gap s P u B) C (gap t Q u B) C c c
-    (leq-scaled (signOf s P u B) (signOf t Q u B) (gap s P u B) (gap t Q u B) C
-    (sum-leq s t u P Q B (leq-scaled s t (m * up e * down d) (n * up d * down e) (down j) (leq-of-le s m e t n d h)))))
+    let c : 0 < down e * down d * down j = mul-pos (mul-pos (down-pos e) (down-pos d)) (down-pos j) in
+    let y : HasValue (fin u b j) u B (down e * down d * down j) = (refl, third (b * up j) (down e * down d) (down j)) in
+    add-leq f (fin s m e) (fin u b j) (fin t n d) (fin u b j) s u t u P B Q B (down e * down d * down j) c
+    (refl, over (m * up e) (down e) (down d) (down j)) y (refl, other (n * up d) (down e) (down d) (down j)) y
+    (sum-leq s t u P Q B (leq-scaled s t (m * up e * down d) (n * up d * down e) (down j) (leq-of-le s m e t n d h)))
   where
     over : (x e d j : ℕ) → x * (e * d * j) ≡ x * d * j * e
     over x e d j = simp (mul-assoc, n-comm, mul-left-comm)

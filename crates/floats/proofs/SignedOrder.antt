@@ -81,6 +81,23 @@ sum-leq true true false p q b h = go (ltb p b) refl (ltb b p) refl (ltb q b) ref
     go false e false g false d false c = omega (arith, ltb-false b p g)
 sum-leq true true true p q b h = omega arith
 
+-- a - b ≤ c - d, and a - b ≤ c
+pub differences-leq : (a b c d : ℕ) → a + d ≤ c + b → Leq (signOf false a true b) (gap false a true b) (signOf false c true d) (gap false c true d)
+differences-leq a b c d h = go (ltb a b) refl (ltb c d) refl
+  where
+    go : (x : Bool) → ltb a b ≡ x → (y : Bool) → ltb c d ≡ y → Leq (cond x true false) (cond x (b - a) (a - b)) (cond y true false) (cond y (d - c) (c - d))
+    go true e true g = omega arith
+    go true e false g = tt
+    go false e true g = absurd (omega (arith, ltb-false a b e, ltb-true c d g))
+    go false e false g = omega arith
+
+pub difference-leq : (a b c : ℕ) → a ≤ c + b → Leq (signOf false a true b) (gap false a true b) false c
+difference-leq a b c h = go (ltb a b)
+  where
+    go : (x : Bool) → Leq (cond x true false) (cond x (b - a) (a - b)) false c
+    go true = tt
+    go false = omega arith
+
 -- a sum may be turned round
 gap-apart : (a b : ℕ) → gap true a false b ≡ gap false b true a
 gap-apart a b = go (ltb a b) refl (ltb b a) refl

@@ -1,6 +1,6 @@
 -- A floor of the palette error: for each sample a value that none of its eight squared distances is below, and these summed in the error's order.
 -- It holds with a NaN anywhere. Assumes nothing.
-use mathlib.Core.Path.{_≡_, sym, subst}
+use mathlib.Core.Path.{_≡_}
 use mathlib.Core.Bool.{Bool, true, false, cond}
 use mathlib.Core.List.{List}
 use Prim.Native.Nat.{ℕ, zero, suc, _<_}
@@ -35,10 +35,10 @@ module _ (v : List Float) (p m : Float) (each : (k : ℕ) → k < 8 → lt (squa
   miss-floor = rw (miss-is v p) (least-floor 7 (omega arith))
 
 -- ---- the sum. Neither is negative, and x is not below y
-pub record Over (x y : Float) : Type 0 where
-  pub left : Plain x
-  pub right : Plain y
-  pub over : lt x y ≡ false
+record Over (x y : Float) : Type 0 where
+  left : Plain x
+  right : Plain y
+  over : lt x y ≡ false
 
 both : (x y z w : Float) → Over x y → Over z w → Over (x ⊕ z) (y ⊕ w)
 both x y z w p q = record {

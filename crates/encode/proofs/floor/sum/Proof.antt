@@ -1,8 +1,8 @@
 use mathlib.Core.Path.{refl, ap, _∙_}
+use mathlib.Core.List.{List}
 use Prim.Native.Nat.{ℕ, _≤_, _-_}
 use native.Mathlib.Omega.{arith}
 use lib.Ieee.{Float, nan}
-use mathlib.Core.List.{List}
 use borrow.Author.Needs.{needs}
 use Rattle.block.specs.Samples.{pixelAt}
 use Rattle.block.specs.Orders.{sumInOrder}

@@ -1,13 +1,13 @@
-use mathlib.Core.Path.{_≡_, refl, sym}
+use mathlib.Core.Path.{_≡_, sym}
 use Prim.Native.Nat.{_≤_, _-_}
 use native.Mathlib.Omega.{arith}
-use borrow.Author.Needs.{needs}
-use Rattle.encode.specs.Search.{maxesTried}
-use Rattle.encode.proofs.Steps.{maxes-none, maxes-more}
-use Rattle.block.proofs.Fill.{getD-tabulate}
-use Rattle.encode.specs.Floor.{maxFloor}
-use Rattle.encode.proofs.PassedOver.{max-floor}
 use lib.Ieee.{nan}
+use borrow.Author.Needs.{needs}
+use Rattle.block.proofs.Fill.{getD-tabulate}
+use Rattle.encode.specs.Search.{maxesTried}
+use Rattle.encode.specs.Floor.{maxFloor}
+use Rattle.encode.proofs.Steps.{maxes-none, maxes-more}
+use Rattle.encode.proofs.PassedOver.{max-floor}
 use Rattle.encode.proofs.search.maxes_tried.Statement.{statement}
 use Rattle.encode.proofs.search.maxes_tried.Tie as tie
 
