@@ -1,5 +1,6 @@
--- A floor of the palette errors of many pairs at once, for the search to pass pairs over: how far a block's samples lie beyond low..high at least.
--- The values of a pair's palettes lie between its ends, but for rounding, and are 0 or 1 besides.
+-- A floor of the palette errors of many pairs at once, by which the search passes pairs over. The values of a pair's palettes lie between its ends,
+-- but for rounding, and of four values two are 0 and 1; so a sample beyond the ends is at least so far from all of them. `min-floor` and `max-floor`
+-- in proofs/ say that no error is below its floor.
 use mathlib.Core.List.{List}
 use mathlib.Core.Bool.{true, false, cond}
 use Prim.Native.Nat.{ℕ}
@@ -14,11 +15,11 @@ use Rattle.block.specs.Orders.{sumInOrder}
 abbrev pub margin : Float
 margin = bits 0x3480_0000
 
--- how far p lies below low, or above high with the sign turned
+-- how far p lies below low; or above high, as a negative number
 unfoldable pub beyond : Float → Float → Float → Float
 beyond low high p = cond (lt f0 (low ⊖ p)) (low ⊖ p) (laneMin (high ⊖ p) f0)
 
--- the square of that, or of the distance from 0 or 1
+-- the square of that, or of the distance from 0 or 1 if it is smaller
 unfoldable pub atLeast : Float → Float → Float
 atLeast d p = laneMin (squared (f0 ⊖ p)) (laneMin (squared (f1 ⊖ p)) (squared d))
 

@@ -53,7 +53,7 @@ fn max_floor(b: &[f32; 16], max: u8) -> f32
     )
 }
 
-// One for each max: they are asked for at each min again.
+// Worked out once: each min asks for them again.
 pub fn max_floors(b: &[f32; 16]) -> [f32; 256]
     ensures { λ r. ⌜ r ≡ maxFloors (now (b .entry)) ⌝ }
 {

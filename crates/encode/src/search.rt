@@ -1,7 +1,7 @@
-// reference_brute_force.
+// reference_brute_force. Pairs that cannot be below what is held are passed over, by floors of their errors: the answer is that of all pairs tried.
 ghost use mathlib.Core.Path.{_≡_};
-ghost use Prim.Native.Nat.{_<_, _≤_, _-_};
 ghost use mathlib.Core.Bool.{false};
+ghost use Prim.Native.Nat.{_<_, _≤_, _-_};
 ghost use lib.Ieee.{lt};
 ghost use Rattle.palette.specs.declared.Kind.{Kind as KindOf};
 ghost use Rattle.encode.specs.Covered.{pairError};
