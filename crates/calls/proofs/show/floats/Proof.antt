@@ -1,0 +1,60 @@
+-- `calls::show::floats` is safe and ends. Assumes nothing.
+use mathlib.Core.Path.{_≡_}
+use Prim.Native.Nat.{_-_, _≤_, _<_}
+use lib.ListN.{length}
+use borrow.Author.Needs.{needs}
+use Rattle.calls.proofs.show.floats.Statement.{statement}
+use Rattle.calls.proofs.show.floats.Tie as tie
+
+abbrev Inv-loop : tie.InvT-loop
+Inv-loop x i₀ t3 i = i ≤ 16
+
+abbrev μ-loop : tie.MeasureT-loop
+μ-loop x i₀ t3 i = 16 - i
+
+loop-holds : tie.Need-loop-holds Inv-loop μ-loop
+loop-holds c = search needs
+
+slice-aggregate-text : tie.Need-slice-aggregate-text Inv-loop μ-loop
+slice-aggregate-text c = search needs
+
+text-requires : tie.Need-text-requires Inv-loop μ-loop
+text-requires c κs = search needs
+
+mul-float : tie.Need-mul-float Inv-loop μ-loop
+mul-float c = search needs
+
+element-copy-out-float : tie.Need-element-copy-out-float Inv-loop μ-loop
+element-copy-out-float c = search needs
+
+float-requires : tie.Need-float-requires Inv-loop μ-loop
+float-requires c κs = search needs
+
+add-i : tie.Need-add-i Inv-loop μ-loop
+add-i c = search needs
+
+loop-less : tie.Need-loop-less Inv-loop μ-loop
+loop-less c = search needs
+
+loop-again : tie.Need-loop-again Inv-loop μ-loop
+loop-again c = search needs
+
+returns : tie.Need-returns Inv-loop μ-loop
+returns c = search needs
+
+pub floats-spec : {M : Type 1} → statement M
+floats-spec =
+    tie.close
+    (tie.spec
+    Inv-loop
+    μ-loop
+    loop-holds
+    slice-aggregate-text
+    text-requires
+    mul-float
+    element-copy-out-float
+    float-requires
+    add-i
+    loop-less
+    loop-again
+    returns)

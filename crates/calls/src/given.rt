@@ -1,0 +1,81 @@
+// What the cases give to the calls.
+use refine::options::Options;
+use refine::options::Quantization;
+
+// Past any sample that is given: no NaN.
+pub const NONE: usize = 0xffff_ffff;
+
+fn nan() -> f32 {
+    0.0 / 0.0
+}
+
+pub fn infinity() -> f32 {
+    1.0 / 0.0
+}
+
+pub fn options(dither: bool, snorm: bool, search: bool) -> Options {
+    Options {
+        dither: dither,
+        snorm: snorm,
+        brute_force: search,
+        use_inter4: true,
+        use_inter4_heuristic: false,
+        quantization: Quantization::Round,
+        fast_iter: false,
+        max_refine_iter: 2,
+        size_variations: false,
+        iter_initial_inter4: false,
+    }
+}
+
+// Slopes with a texture, from 0 to just under 1, in whole 65,536ths: no rounding on the way, so that any reader of this line has the same floats.
+pub fn sample(i: usize) -> f32 {
+    ((i % 65521 * 1021 + i % 7 * 1500 + i % 251 * 40) % 65521) as u16 as f32 / 65536.0
+}
+
+pub fn byte(i: usize) -> u8 {
+    ((i % 65521 * 37 + i % 65521 / 256 * 3 + 200) % 256) as u8
+}
+
+fn sample_or_nan(i: usize, first: usize, second: usize) -> f32 {
+    if (i == first) | (i == second) {
+        return nan();
+    }
+    sample(i)
+}
+
+pub fn fill_samples(out: &mut [f32], first: usize, second: usize) {
+    for i in 0..out.len() {
+        out[i] = sample_or_nan(i, first, second);
+    }
+}
+
+pub fn fill_bytes(out: &mut [u8]) {
+    for i in 0..out.len() {
+        out[i] = byte(i);
+    }
+}
+
+// One more than a block has.
+pub fn samples(first: usize, second: usize) -> [f32; 17] {
+    let mut s = [0.0f32; 17];
+    fill_samples(&mut s, first, second);
+    s
+}
+
+pub fn bytes() -> [u8; 17] {
+    let mut b = [0u8; 17];
+    fill_bytes(&mut b);
+    b
+}
+
+pub fn block() -> [f32; 16] {
+    let mut s = [0.0f32; 16];
+    fill_samples(&mut s, NONE, NONE);
+    s
+}
+
+// Two values, in the eight upper and the eight lower samples.
+pub fn halves(a: f32, b: f32) -> [f32; 16] {
+    [a, a, a, a, a, a, a, a, b, b, b, b, b, b, b, b]
+}

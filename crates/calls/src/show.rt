@@ -1,0 +1,93 @@
+// What a line is made of, on standard output.
+ghost use Prim.Native.Nat.{_<_};
+ghost use mathlib.Core.Bool.{not};
+ghost use lib.Dec.{T};
+ghost use lib.Ieee.{isNan};
+use crate::given;
+use bc4::refusal::Refusal;
+use libc::STDOUT_FILENO;
+
+pub fn text(t: &[u8]) {
+    io::write_all(STDOUT_FILENO, t);
+}
+
+pub fn number(n: usize) {
+    io::print_decimal(STDOUT_FILENO, n as u64);
+}
+
+fn wide(b: u8) -> u64
+    ensures { λ r. ⌜ r < 256 ⌝ }
+{
+    b as u64
+}
+
+pub fn bytes(s: &[u8]) {
+    for i in 0..s.len() {
+        io::print_hex(STDOUT_FILENO, wide(s[i]), 2);
+    }
+}
+
+pub fn block(b: u64) {
+    let eight = bc4::bytes(b);
+    bytes(&eight);
+}
+
+// A NaN's bits are not defined.
+fn bits(x: f32) -> u32
+    requires { ⌜ T (not (isNan x)) ⌝ }
+{
+    f32::to_bits(x)
+}
+
+pub fn float(x: f32) {
+    if x != x {
+        text(b"nan");
+        return;
+    }
+    io::print_hex(STDOUT_FILENO, bits(x) as u64, 8);
+}
+
+pub fn floats(x: &[f32; 16]) {
+    for i in 0..16usize {
+        text(b" ");
+        float(x[i]);
+    }
+}
+
+// The document's number, and the index that comes with a NaN.
+pub fn refused(q: Refusal) {
+    text(b"refused ");
+    number(bc4::refusal::number(q) as usize);
+    if let Refusal::SampleIsNan(i) = q {
+        text(b" at ");
+        number(i);
+    }
+}
+
+pub fn format(snorm: bool) {
+    if snorm {
+        text(b", signed");
+    } else {
+        text(b", unsigned");
+    }
+}
+
+pub fn nans(first: usize, second: usize) {
+    if first != given::NONE {
+        text(b", NaN at ");
+        number(first);
+    }
+    if second != given::NONE {
+        text(b" and ");
+        number(second);
+    }
+}
+
+// All of a buffer in eight hex digits: a byte that is another, or elsewhere, shows.
+pub fn checksum(s: &[u8]) {
+    let mut sum: u64 = 0;
+    for i in 0..s.len() {
+        sum = (sum * 257 + wide(s[i]) + 1) % 4294967291;
+    }
+    io::print_hex(STDOUT_FILENO, sum, 8);
+}
