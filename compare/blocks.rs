@@ -27,7 +27,7 @@ impl Words {
     fn signed(&self) -> f32 {
         self.unit() * 2.0 - 1.0
     }
-    fn any(&self) -> f32 {
+    pub(super) fn any(&self) -> f32 {
         f32::from_bits(self.next() as u32)
     }
     fn pick(&self, from: &[f32]) -> f32 {

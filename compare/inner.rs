@@ -1,5 +1,5 @@
 //! inner [blocks] [SEED [COUNT]]: each inner function of the Rattle library beside the one of the Rust text. inner time: how
-//! long a call takes.
+//! long a call takes. inner decode, inner errors [SEED [COUNT]], inner encode [SEED [COUNT]]: the public calls.
 //! A child module of the Rust text's bc4.rs, so that it sees the private items. It only calls them.
 use super::*;
 use std::{
@@ -11,6 +11,8 @@ use std::{
 
 #[path = "blocks.rs"]
 mod blocks;
+#[path = "calls.rs"]
+mod calls;
 #[path = "time.rs"]
 mod time;
 
@@ -365,27 +367,38 @@ fn open_answers() {
 
 pub(crate) fn main() -> ! {
     let mut args: Vec<String> = std::env::args().skip(1).collect();
-    if args.first().is_some_and(|s| s == "time") {
-        time::main();
-        std::process::exit(0)
-    }
-    let blocks_only = args.first().is_some_and(|s| s == "blocks");
-    if blocks_only {
-        args.remove(0);
-    }
+    let mode = match args.first().map(String::as_str) {
+        Some(word) if word.parse::<u64>().is_err() => args.remove(0),
+        _ => String::new(),
+    };
     let arg = |i: usize, or| args.get(i).map_or(or, |s| s.parse().expect("a number"));
-    let (seed, random) = (arg(0, 1), arg(1, 60_000_000));
-    let edges = edges();
-    let pairs = Pairs { seed, crossed: (edges.len() * edges.len()) as u64, edges, random };
-
-    let mut same = true;
-    if !blocks_only {
-        println!("seed {seed}, pairs: {} of edges and {random} random", pairs.crossed);
-        same &= compare_numbers(&pairs, seed, random / 10);
-    }
-    same &= blocks::compare_all(seed, random / 10, &pairs.edges);
-    if !blocks_only {
-        open_answers();
-    }
+    let (seed, edges) = (arg(0, 1), edges());
+    let same = match mode.as_str() {
+        "time" => {
+            time::main();
+            true
+        }
+        "decode" => calls::compare_decode(),
+        "errors" => calls::compare_errors(seed, arg(1, 1_000_000), &edges),
+        "encode" => calls::compare_encode(seed, arg(1, 1_000_000), &edges),
+        "" | "blocks" => {
+            let random = arg(1, 60_000_000);
+            let pairs = Pairs { seed, crossed: (edges.len() * edges.len()) as u64, edges, random };
+            let mut same = true;
+            if mode.is_empty() {
+                println!("seed {seed}, pairs: {} of edges and {random} random", pairs.crossed);
+                same &= compare_numbers(&pairs, seed, random / 10);
+            }
+            same &= blocks::compare_all(seed, random / 10, &pairs.edges);
+            if mode.is_empty() {
+                open_answers();
+            }
+            same
+        }
+        _ => {
+            eprintln!("no mode {mode}: blocks, time, decode, errors or encode");
+            std::process::exit(2)
+        }
+    };
     std::process::exit(!same as i32)
 }

@@ -11,6 +11,9 @@ ghost use Rattle.index_list.specs.Indexes.{filledTo};
 ghost use Rattle.block.specs.Block.{entered, mean};
 ghost use Rattle.palette.specs.declared.Kind.the-variants.{Six, Four};
 ghost use Rattle.palette.specs.PaletteError.{paletteError};
+
+pub mod public_calls;
+
 use end_points::EndPoints;
 use floats::Pair;
 use index_list::IndexList;
