@@ -128,7 +128,7 @@ def encode(samples, **options):
 
 def decode(block, snorm, before):
     number = lowest((3, len(block) != 8))
-    text = f" {refused(number)}" if number else ""
+    text = f" {refused(number)}," if number else ""
     return text + "".join(" " + bits(x) for x in (before if number else decoded(block, snorm)))
 
 

@@ -1,19 +1,16 @@
 // Decode: refusal 3. A line shows what the lent array holds after the call: what it held before, where the call refuses.
 use crate::given;
 use crate::show;
-use bc4::refusal::Checked;
+use given::Sixteen;
 
 // The first `length` of the bytes.
 fn answer(encoded: &[u8], length: usize, snorm: bool) {
-    let mut samples = given::block();
-    show::text(b":");
-    if length <= encoded.len() {
-        let checked = bc4::decode_block(&encoded[0..length], snorm, &mut samples);
-        if let Checked::Refused(q) = checked {
-            show::text(b" ");
-            show::refused(q);
-        }
+    if encoded.len() < length {
+        return;
     }
+    let mut samples = given::block(Sixteen::Slopes);
+    show::text(b":");
+    show::if_refused(bc4::decode_block(&encoded[0..length], snorm, &mut samples));
     show::floats(&samples);
     show::text(b"\n");
 }

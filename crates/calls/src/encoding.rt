@@ -3,18 +3,23 @@ use crate::given;
 use crate::show;
 use bc4::Encoded;
 use given::NONE;
+use given::Sixteen;
 use refine::options::Options;
+
+pub fn shown(e: Encoded) {
+    match e {
+        Encoded::Refused(q) => show::refused(q),
+        Encoded::Block(b) => show::block(b),
+    }
+}
 
 // The first `count` of the samples.
 fn answer(samples: &[f32], count: usize, o: Options) {
-    show::text(b": ");
-    if count <= samples.len() {
-        let encoded = bc4::encode_block(&samples[0..count], o);
-        match encoded {
-            Encoded::Refused(q) => show::refused(q),
-            Encoded::Block(b) => show::block(b),
-        }
+    if samples.len() < count {
+        return;
     }
+    show::text(b": ");
+    shown(bc4::encode_block(&samples[0..count], o));
     show::text(b"\n");
 }
 
@@ -28,17 +33,14 @@ fn counted(count: usize, first: usize, second: usize) {
     answer(&s, count, given::options(false, false, false));
 }
 
-fn valued(name: &[u8], samples: &[f32; 16], dither: bool, snorm: bool, search: bool) {
+fn valued(what: Sixteen, dither: bool, snorm: bool, search: bool) {
+    let s = given::block(what);
     show::text(b"encode ");
-    show::text(name);
+    show::samples(what);
     show::format(snorm);
-    if dither {
-        show::text(b", dither");
-    }
-    if search {
-        show::text(b", search");
-    }
-    answer(samples, 16, given::options(dither, snorm, search));
+    show::dither(dither);
+    show::search(search);
+    answer(&s, 16, given::options(dither, snorm, search));
 }
 
 fn counts() {
@@ -65,45 +67,38 @@ fn nans() {
 }
 
 fn values() {
-    let s = given::block();
-    valued(b"slopes", &s, false, false, false);
-    valued(b"slopes", &s, false, true, false);
-    valued(b"slopes", &s, true, false, false);
-    valued(b"slopes", &s, true, true, false);
-    valued(b"slopes", &s, false, false, true);
-    valued(b"slopes", &s, false, true, true);
+    valued(Sixteen::Slopes, false, false, false);
+    valued(Sixteen::Slopes, false, true, false);
+    valued(Sixteen::Slopes, true, false, false);
+    valued(Sixteen::Slopes, true, true, false);
+    valued(Sixteen::Slopes, false, false, true);
+    valued(Sixteen::Slopes, false, true, true);
 }
 
 fn flat() {
-    let zeros = [0.0f32; 16];
-    let ones = [1.0f32; 16];
-    valued(b"all 0", &zeros, false, false, false);
-    valued(b"all 0", &zeros, false, true, false);
-    valued(b"all 0", &zeros, false, false, true);
-    valued(b"all 1", &ones, false, false, false);
-    valued(b"all 1", &ones, false, true, false);
-    valued(b"all 1", &ones, false, false, true);
+    valued(Sixteen::Zeros, false, false, false);
+    valued(Sixteen::Zeros, false, true, false);
+    valued(Sixteen::Zeros, false, false, true);
+    valued(Sixteen::Ones, false, false, false);
+    valued(Sixteen::Ones, false, true, false);
+    valued(Sixteen::Ones, false, false, true);
 }
 
 // Infinite samples are clamped: the same bytes as 0 and 1.
 fn infinite() {
-    let finite = given::halves(0.0, 1.0);
-    let infinite = given::halves(-given::infinity(), given::infinity());
-    valued(b"0 and 1", &finite, false, false, false);
-    valued(b"-inf and inf", &infinite, false, false, false);
-    valued(b"0 and 1", &finite, false, true, false);
-    valued(b"-inf and inf", &infinite, false, true, false);
-    valued(b"0 and 1", &finite, true, false, false);
-    valued(b"-inf and inf", &infinite, true, false, false);
+    valued(Sixteen::ZeroAndOne, false, false, false);
+    valued(Sixteen::BothInfinite, false, false, false);
+    valued(Sixteen::ZeroAndOne, false, true, false);
+    valued(Sixteen::BothInfinite, false, true, false);
+    valued(Sixteen::ZeroAndOne, true, false, false);
+    valued(Sixteen::BothInfinite, true, false, false);
 }
 
 fn infinite_flat() {
-    let all = [given::infinity(); 16];
-    let none = [-given::infinity(); 16];
-    valued(b"all inf", &all, false, false, false);
-    valued(b"all inf", &all, false, false, true);
-    valued(b"all -inf", &none, false, true, false);
-    valued(b"all -inf", &none, false, false, true);
+    valued(Sixteen::Infinite, false, false, false);
+    valued(Sixteen::Infinite, false, false, true);
+    valued(Sixteen::MinusInfinite, false, true, false);
+    valued(Sixteen::MinusInfinite, false, false, true);
 }
 
 pub fn cases() {

@@ -3,19 +3,30 @@ use crate::given;
 use crate::show;
 use bc4::Scored;
 use given::NONE;
+use given::Sixteen;
+
+// Both modes, with the indexes 0 to 7, twice.
+const SIX: [u8; 8] = [0xc8, 0x0a, 0x88, 0xc6, 0xfa, 0x88, 0xc6, 0xfa];
+
+const FOUR: [u8; 8] = [0x0a, 0xc8, 0x88, 0xc6, 0xfa, 0x88, 0xc6, 0xfa];
+
+fn shown(s: Scored) {
+    match s {
+        Scored::Refused(q) => show::refused(q),
+        Scored::Error(x) => show::float(x),
+    }
+}
 
 // The first `count` of the samples, the first `length` of the bytes.
 fn answer(samples: &[f32], count: usize, encoded: &[u8], length: usize, snorm: bool) {
-    show::text(b": ");
-    if count <= samples.len() {
-        if length <= encoded.len() {
-            let scored = bc4::block_error(&samples[0..count], &encoded[0..length], snorm);
-            match scored {
-                Scored::Refused(q) => show::refused(q),
-                Scored::Error(x) => show::float(x),
-            }
-        }
+    if samples.len() < count {
+        return;
     }
+    if encoded.len() < length {
+        return;
+    }
+    show::text(b": ");
+    shown(bc4::block_error(&samples[0..count], &encoded[0..length], snorm));
     show::text(b"\n");
 }
 
@@ -32,13 +43,14 @@ fn counted(count: usize, length: usize, first: usize, second: usize) {
     answer(&s, count, &b, length, false);
 }
 
-fn valued(name: &[u8], samples: &[f32; 16], encoded: [u8; 8], snorm: bool) {
+fn valued(what: Sixteen, encoded: [u8; 8], snorm: bool) {
+    let s = given::block(what);
     show::text(b"error of ");
-    show::text(name);
+    show::samples(what);
     show::text(b" and ");
     show::bytes(&encoded);
     show::format(snorm);
-    answer(samples, 16, &encoded, 8, snorm);
+    answer(&s, 16, &encoded, 8, snorm);
 }
 
 fn counts() {
@@ -77,33 +89,25 @@ fn together() {
 }
 
 fn values() {
-    let s = given::block();
-    let six = [0xc8, 0x0a, 0x88, 0xc6, 0xfa, 0x88, 0xc6, 0xfa];
-    let four = [0x0a, 0xc8, 0x88, 0xc6, 0xfa, 0x88, 0xc6, 0xfa];
-    valued(b"slopes", &s, six, false);
-    valued(b"slopes", &s, four, false);
-    valued(b"slopes", &s, six, true);
-    valued(b"slopes", &s, four, true);
+    valued(Sixteen::Slopes, SIX, false);
+    valued(Sixteen::Slopes, FOUR, false);
+    valued(Sixteen::Slopes, SIX, true);
+    valued(Sixteen::Slopes, FOUR, true);
 }
 
 // Infinite samples are clamped: the same errors as 0 and 1.
 fn infinite() {
-    let finite = given::halves(0.0, 1.0);
-    let infinite = given::halves(-given::infinity(), given::infinity());
-    let far = given::halves(-3.5, 2.5);
-    let six = [0xc8, 0x0a, 0x88, 0xc6, 0xfa, 0x88, 0xc6, 0xfa];
-    valued(b"0 and 1", &finite, six, false);
-    valued(b"-inf and inf", &infinite, six, false);
-    valued(b"-3.5 and 2.5", &far, six, false);
-    valued(b"0 and 1", &finite, six, true);
-    valued(b"-inf and inf", &infinite, six, true);
+    valued(Sixteen::ZeroAndOne, SIX, false);
+    valued(Sixteen::BothInfinite, SIX, false);
+    valued(Sixteen::BothOutside, SIX, false);
+    valued(Sixteen::ZeroAndOne, SIX, true);
+    valued(Sixteen::BothInfinite, SIX, true);
 }
 
 // 0 where each sample is its value, 16 where each is as far off as can be.
 fn ends() {
-    let zeros = [0.0f32; 16];
-    valued(b"all 0", &zeros, [0; 8], false);
-    valued(b"all 0", &zeros, [0xff; 8], false);
+    valued(Sixteen::Zeros, [0; 8], false);
+    valued(Sixteen::Zeros, [0xff; 8], false);
 }
 
 pub fn cases() {

@@ -9,7 +9,7 @@ fn nan() -> f32 {
     0.0 / 0.0
 }
 
-pub fn infinity() -> f32 {
+fn infinity() -> f32 {
     1.0 / 0.0
 }
 
@@ -69,13 +69,38 @@ pub fn bytes() -> [u8; 17] {
     b
 }
 
-pub fn block() -> [f32; 16] {
+// Sixteen samples by what they are.
+pub enum Sixteen {
+    Slopes,
+    Zeros,
+    Ones,
+    Infinite,
+    MinusInfinite,
+    ZeroAndOne,
+    BothInfinite,
+    BothOutside,
+}
+
+fn slopes() -> [f32; 16] {
     let mut s = [0.0f32; 16];
     fill_samples(&mut s, NONE, NONE);
     s
 }
 
-// Two values, in the eight upper and the eight lower samples.
-pub fn halves(a: f32, b: f32) -> [f32; 16] {
+// The first eight and the others.
+fn halves(a: f32, b: f32) -> [f32; 16] {
     [a, a, a, a, a, a, a, a, b, b, b, b, b, b, b, b]
+}
+
+pub fn block(what: Sixteen) -> [f32; 16] {
+    match what {
+        Sixteen::Slopes => slopes(),
+        Sixteen::Zeros => [0.0; 16],
+        Sixteen::Ones => [1.0; 16],
+        Sixteen::Infinite => [infinity(); 16],
+        Sixteen::MinusInfinite => [-infinity(); 16],
+        Sixteen::ZeroAndOne => halves(0.0, 1.0),
+        Sixteen::BothInfinite => halves(-infinity(), infinity()),
+        Sixteen::BothOutside => halves(-3.5, 2.5),
+    }
 }

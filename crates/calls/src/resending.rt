@@ -4,6 +4,7 @@ use crate::show;
 use bc4::Held;
 use bc4::Resent;
 use given::NONE;
+use given::Sixteen;
 use refine::options::Options;
 
 // The bytes to hold, after a word for the flag.
@@ -16,18 +17,23 @@ fn held_or_fresh(h: Held) {
     show::block(h.block);
 }
 
+fn shown(r: Resent) {
+    match r {
+        Resent::Refused(q) => show::refused(q),
+        Resent::Block(h) => held_or_fresh(h),
+    }
+}
+
 // The first `count` of the samples, the first `length` of the bytes.
 fn answer(samples: &[f32], count: usize, held: &[u8], length: usize, o: Options) {
-    show::text(b": ");
-    if count <= samples.len() {
-        if length <= held.len() {
-            let resent = bc4::resend(&samples[0..count], &held[0..length], o);
-            match resent {
-                Resent::Refused(q) => show::refused(q),
-                Resent::Block(h) => held_or_fresh(h),
-            }
-        }
+    if samples.len() < count {
+        return;
     }
+    if held.len() < length {
+        return;
+    }
+    show::text(b": ");
+    shown(bc4::resend(&samples[0..count], &held[0..length], o));
     show::text(b"\n");
 }
 
@@ -40,20 +46,19 @@ fn counted(count: usize, length: usize, dither: bool, nan: usize) {
     show::text(b" samples over ");
     show::number(length);
     show::text(b" bytes");
-    if dither {
-        show::text(b", dither");
-    }
+    show::dither(dither);
     show::nans(nan, NONE);
     answer(&s, count, &b, length, given::options(dither, false, false));
 }
 
-fn valued(name: &[u8], samples: &[f32; 16], held: [u8; 8], snorm: bool) {
+fn valued(what: Sixteen, held: [u8; 8], snorm: bool) {
+    let s = given::block(what);
     show::text(b"resend ");
-    show::text(name);
+    show::samples(what);
     show::text(b" over ");
     show::bytes(&held);
     show::format(snorm);
-    answer(samples, 16, &held, 8, given::options(false, snorm, false));
+    answer(&s, 16, &held, 8, given::options(false, snorm, false));
 }
 
 fn counts() {
@@ -101,28 +106,23 @@ fn more_together() {
 
 // An equal error keeps the held bytes: index 6 of the four-value mode is 0, as is each endpoint here.
 fn ties() {
-    let zeros = [0.0f32; 16];
     valued(
-        b"all 0",
-        &zeros,
+        Sixteen::Zeros,
         [0x00, 0x00, 0xb6, 0x6d, 0xdb, 0xb6, 0x6d, 0xdb],
         false,
     );
     valued(
-        b"all 0",
-        &zeros,
+        Sixteen::Zeros,
         [0x00, 0x00, 0x00, 0x00, 0x00, 0x00, 0x00, 0x00],
         false,
     );
     valued(
-        b"all 0",
-        &zeros,
+        Sixteen::Zeros,
         [0x80, 0x80, 0xb6, 0x6d, 0xdb, 0xb6, 0x6d, 0xdb],
         true,
     );
     valued(
-        b"all 0",
-        &zeros,
+        Sixteen::Zeros,
         [0x81, 0x81, 0x00, 0x00, 0x00, 0x00, 0x00, 0x00],
         true,
     );
@@ -130,56 +130,46 @@ fn ties() {
 
 // The fresh bytes themselves; better ones, which the search found; and worse ones, which are replaced.
 fn values() {
-    let s = given::block();
     valued(
-        b"slopes",
-        &s,
+        Sixteen::Slopes,
         [0x56, 0x00, 0xb9, 0x5d, 0xce, 0xe5, 0x24, 0x4c],
         false,
     );
     valued(
-        b"slopes",
-        &s,
+        Sixteen::Slopes,
         [0x51, 0x07, 0xc9, 0x5d, 0xce, 0xe5, 0x04, 0x4c],
         false,
     );
     valued(
-        b"slopes",
-        &s,
+        Sixteen::Slopes,
         [0x00, 0x00, 0x00, 0x00, 0x00, 0x00, 0x00, 0x00],
         false,
     );
     valued(
-        b"slopes",
-        &s,
+        Sixteen::Slopes,
         [0x56, 0x00, 0xb9, 0x5d, 0xce, 0xe5, 0x24, 0x00],
         false,
     );
 }
 
 fn signed_values() {
-    let s = given::block();
     valued(
-        b"slopes",
-        &s,
+        Sixteen::Slopes,
         [0xd7, 0x81, 0xb9, 0x5d, 0xce, 0xe5, 0x24, 0x6c],
         true,
     );
     valued(
-        b"slopes",
-        &s,
+        Sixteen::Slopes,
         [0xd3, 0x83, 0xb9, 0x5d, 0xce, 0xe5, 0x04, 0x4c],
         true,
     );
     valued(
-        b"slopes",
-        &s,
+        Sixteen::Slopes,
         [0x81, 0x81, 0x00, 0x00, 0x00, 0x00, 0x00, 0x00],
         true,
     );
     valued(
-        b"slopes",
-        &s,
+        Sixteen::Slopes,
         [0xd7, 0x81, 0xb9, 0x5d, 0xce, 0xe5, 0x24, 0x00],
         true,
     );
@@ -187,22 +177,18 @@ fn signed_values() {
 
 // Infinite samples are as 0 and 1: the fresh bytes have no error, so only held ones with an error give way.
 fn infinite() {
-    let s = given::halves(-given::infinity(), given::infinity());
     valued(
-        b"-inf and inf",
-        &s,
+        Sixteen::BothInfinite,
         [0x00, 0x00, 0x00, 0x00, 0x00, 0x00, 0x00, 0x00],
         false,
     );
     valued(
-        b"-inf and inf",
-        &s,
+        Sixteen::BothInfinite,
         [0x00, 0xff, 0xb6, 0x6d, 0xdb, 0xff, 0xff, 0xff],
         false,
     );
     valued(
-        b"-inf and inf",
-        &s,
+        Sixteen::BothInfinite,
         [0x80, 0x7f, 0xb6, 0x6d, 0xdb, 0xff, 0xff, 0xff],
         true,
     );

@@ -4,7 +4,9 @@ ghost use mathlib.Core.Bool.{not};
 ghost use lib.Dec.{T};
 ghost use lib.Ieee.{isNan};
 use crate::given;
+use bc4::refusal::Checked;
 use bc4::refusal::Refusal;
+use given::Sixteen;
 use libc::STDOUT_FILENO;
 
 pub fn text(t: &[u8]) {
@@ -64,11 +66,45 @@ pub fn refused(q: Refusal) {
     }
 }
 
+// Before what lent memory holds after the call.
+pub fn if_refused(c: Checked) {
+    if let Checked::Refused(q) = c {
+        text(b" ");
+        refused(q);
+        text(b",");
+    }
+}
+
+pub fn samples(what: Sixteen) {
+    match what {
+        Sixteen::Slopes => text(b"slopes"),
+        Sixteen::Zeros => text(b"all 0"),
+        Sixteen::Ones => text(b"all 1"),
+        Sixteen::Infinite => text(b"all inf"),
+        Sixteen::MinusInfinite => text(b"all -inf"),
+        Sixteen::ZeroAndOne => text(b"0 and 1"),
+        Sixteen::BothInfinite => text(b"-inf and inf"),
+        Sixteen::BothOutside => text(b"-3.5 and 2.5"),
+    }
+}
+
 pub fn format(snorm: bool) {
     if snorm {
         text(b", signed");
     } else {
         text(b", unsigned");
+    }
+}
+
+pub fn dither(set: bool) {
+    if set {
+        text(b", dither");
+    }
+}
+
+pub fn search(set: bool) {
+    if set {
+        text(b", search");
     }
 }
 

@@ -1,29 +1,33 @@
 // Encode tile: refusals 1, 2, 4 and 7. A line shows all of the lent output by its checksum, the bytes past what is written included.
+use crate::encoding;
 use crate::given;
 use crate::show;
-use bc4::Encoded;
 use bc4::Tiled;
 use given::NONE;
+use given::Sixteen;
 
 // A multiple of 4 whose products with a side do not fit.
 pub const FAR: usize = 0xffff_ffff_ffff_fffc;
 
-pub fn answer(samples: &[f32], width: usize, height: usize, snorm: bool, out: &mut [u8]) {
-    show::text(b": ");
-    let tiled = bc4::encode_tile(
-        samples,
-        width,
-        height,
-        given::options(false, snorm, false),
-        out,
-    );
-    match tiled {
+fn shown(t: Tiled) {
+    match t {
         Tiled::Refused(q) => show::refused(q),
         Tiled::Written(n) => {
             show::text(b"written ");
             show::number(n);
         }
     }
+}
+
+pub fn answer(samples: &[f32], width: usize, height: usize, snorm: bool, out: &mut [u8]) {
+    show::text(b": ");
+    shown(bc4::encode_tile(
+        samples,
+        width,
+        height,
+        given::options(false, snorm, false),
+        out,
+    ));
 }
 
 // The first `count` of the samples, into the first `room` bytes.
@@ -117,24 +121,16 @@ fn more_together() {
 
 // Width 4, height 4: the bytes of the block call.
 fn one_block(snorm: bool) {
-    let s = given::block();
+    let s = given::block(Sixteen::Slopes);
     let mut out = [0u8; 8];
     show::text(b"tile 4 by 4");
     show::format(snorm);
     answer(&s, 4, 4, snorm, &mut out);
     show::text(b" ");
     show::bytes(&out);
-    same_block(&s, snorm);
-    show::text(b"\n");
-}
-
-fn same_block(s: &[f32; 16], snorm: bool) {
     show::text(b", block ");
-    let encoded = bc4::encode_block(s, given::options(false, snorm, false));
-    match encoded {
-        Encoded::Refused(q) => show::refused(q),
-        Encoded::Block(b) => show::block(b),
-    }
+    encoding::shown(bc4::encode_block(&s, given::options(false, snorm, false)));
+    show::text(b"\n");
 }
 
 pub fn cases() {

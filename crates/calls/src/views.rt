@@ -2,22 +2,14 @@
 use crate::given;
 use crate::show;
 use crate::tiles;
-use bc4::refusal::Checked;
 use tiles::FAR;
 
 const FARTHEST: usize = 0xffff_ffff_ffff_ffff;
 
-pub fn answer(tile: &[u8], width: usize, height: usize, column: usize, row: usize) {
-    show::text(b": ");
-    let checked = bc4::view_refusal(tile, width, height, column, row);
-    match checked {
-        Checked::Passed => {}
-        Checked::Refused(q) => {
-            show::refused(q);
-            show::text(b", ");
-        }
-    }
-    show::text(b"[");
+fn answer(tile: &[u8], width: usize, height: usize, column: usize, row: usize) {
+    show::text(b":");
+    show::if_refused(bc4::view_refusal(tile, width, height, column, row));
+    show::text(b" [");
     show::bytes(bc4::block_view(tile, width, height, column, row));
     show::text(b"]\n");
 }
