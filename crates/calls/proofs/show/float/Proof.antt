@@ -1,8 +1,5 @@
 -- `calls::show::float` is safe and ends: a float that equals itself is no NaN. Assumes nothing.
-use mathlib.Core.Path.{_≡_, sym, _∙_}
-use mathlib.Core.Bool.{not}
-use lib.Dec.{T}
-use lib.Ieee.{isNan}
+use mathlib.Core.Path.{sym, _∙_}
 use Rattle.floats.proofs.Order.{ne-self}
 use borrow.Author.Needs.{needs}
 use Rattle.calls.proofs.show.float.Statement.{statement}

@@ -1,7 +1,5 @@
 -- `calls::show::floats` is safe and ends. Assumes nothing.
-use mathlib.Core.Path.{_≡_}
-use Prim.Native.Nat.{_-_, _≤_, _<_}
-use lib.ListN.{length}
+use Prim.Native.Nat.{_-_, _≤_}
 use borrow.Author.Needs.{needs}
 use Rattle.calls.proofs.show.floats.Statement.{statement}
 use Rattle.calls.proofs.show.floats.Tie as tie
