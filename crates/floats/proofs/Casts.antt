@@ -1,23 +1,24 @@
 -- `x as u8` and other casts to unsigned integers: they keep the order, and x is at least a whole number k in the range exactly when its cast is.
 -- So a cast is found by tests, and tests of a cast by the cast. Assumes nothing.
 use mathlib.Core.Path.{_≡_, refl, sym, _∙_, subst}
-use Prim.Native.Nat.{ℕ, zero, suc, _+_, _-_, _*_, _/_, _^_, _≤_, _<_, min}
+use Prim.Native.Nat.{ℕ, _-_, _*_, _/_, _^_, _≤_, _<_, min}
 use native.Mathlib.Nat.{mul-one, mul-pos, le-div-iff-mul-le}
 use native.Mathlib.Omega.{arith}
 use mathlib.Core.Bool.{Bool, true, false, _&&_, _||_, cond}
 use lib.IntN.{pos}
 use lib.Dec.{T, leb, ltb, eqb, leb→le, le→leb, eqb→eq, lit<, lit≤}
-use lib.Ieee.{Float, nan, inf, fin, up, down, lt, le, ofBits, isNan, toUnsigned}
+use lib.Ieee.{Float, nan, inf, fin, up, down, lt, le, ofBits, isNan, binary32, toUnsigned, inUnsigned, inFloat}
 use lib.Ieee.Fits.{down-pos, and-r}
+use lib.Ieee.Back.{unsigned-back}
 use lib.Ieee.Nearest.{div-mono}
 use lib.Ieee.Casts.{toUnsigned-lt}
 use borrow.Author.Tests.{le-leb, lt-leb, leb-true, leb-false}
-use Rattle.floats.specs.Arithmetic.{bits, f1, f255}
-use Rattle.floats.specs.Helpers.{byteOf, byteUpTo7}
+use Rattle.floats.specs.Arithmetic.{bits, whole, f0, f1, f255, f2^23}
+use Rattle.floats.specs.Helpers.{laneMin, laneMax, byteOf, byteUpTo7}
 use Rattle.floats.proofs.Tests.{so, iff, clash, leb-not-ltb}
 use Rattle.floats.proofs.Fractions.{le-plain}
 use Rattle.floats.proofs.SignedOrder.{zero-factor}
-use Rattle.floats.proofs.Order.{le-right, lt-of-not, lt-trans, lt-le-trans}
+use Rattle.floats.proofs.Order.{le-right, lt-right, lt-of-not, le-of-not, le-of-lt, lt-trans, lt-le-trans}
 
 -- ---- a cast keeps the order
 less-min : (p q c : ℕ) → p ≤ q → min p c ≤ min q c
@@ -103,47 +104,9 @@ threshold w n j (fin true m e) h g = opposite (n * 2 ^ j) (down e) (m * up e * 1
 threshold w n j (fin false m e) h g =
     le-plain (n * 2 ^ j * down e) (m * up e * 1) ∙ leb-not-ltb (n * 2 ^ j * down e) (m * up e * 1) ∙ cut w (n * 2 ^ j) (m * up e) (down e) (down-pos e) g
 
--- ---- a cast by counting the tests that pass
-abbrev count : ℕ → ℕ → ℕ
-count zero n = 0
-count (suc k) n = count k n + cond (leb (suc k) n) 1 0
-
-count-is : (k n : ℕ) → count k n ≡ min n k
-count-is zero n = omega arith
-count-is (suc k) n = more (leb (suc k) n) refl (count-is k n)
-  where
-    more : (b : Bool) → leb (suc k) n ≡ b → count k n ≡ min n k → count k n + cond b 1 0 ≡ min n (suc k)
-    more true e h = let g : suc k ≤ n = leb-true (suc k) n e in omega arith
-    more false e h = let g : n < suc k = leb-false (suc k) n e in omega arith
-
--- the literals 1.0 to 7.0
-abbrev seven : Float → ℕ
-seven x =
-    cond (le f1 x) 1 0 + cond (le (bits 0x4000_0000) x) 1 0
-    + (cond (le (bits 0x4040_0000) x) 1 0 + cond (le (bits 0x4080_0000) x) 1 0)
-    + (cond (le (bits 0x40a0_0000) x) 1 0 + cond (le (bits 0x40c0_0000) x) 1 0 + cond (le (bits 0x40e0_0000) x) 1 0)
-
 at-1 : (x : Float) → le f1 x ≡ leb 1 (byteOf x)
 unfolding ofBits
 at-1 x = threshold 8 1 0 x (lit< tt) (lit< tt)
-
-tests : (x : Float) →
-    (le (bits 0x4000_0000) x ≡ leb 2 (byteOf x)) × (le (bits 0x4040_0000) x ≡ leb 3 (byteOf x)) × (le (bits 0x4080_0000) x ≡ leb 4 (byteOf x))
-    × (le (bits 0x40a0_0000) x ≡ leb 5 (byteOf x)) × (le (bits 0x40c0_0000) x ≡ leb 6 (byteOf x)) × (le (bits 0x40e0_0000) x ≡ leb 7 (byteOf x))
-unfolding ofBits
-tests x = (
-  threshold 8 1 1 x (lit< tt) (lit< tt),
-  threshold 8 3 0 x (lit< tt) (lit< tt),
-  threshold 8 1 2 x (lit< tt) (lit< tt),
-  threshold 8 5 0 x (lit< tt) (lit< tt),
-  threshold 8 3 1 x (lit< tt) (lit< tt),
-  threshold 8 7 0 x (lit< tt) (lit< tt),
-)
-
-pub seven-is : (x : Float) → seven x ≡ byteUpTo7 x
-seven-is x =
-    let t = tests x in
-    rw (at-1 x, t .0, t .1, t .2, t .3, t .4, t .5) (omega (arith, count-is 7 (byteOf x)))
 
 -- ---- the cast to a byte, by way of 64 bits
 at-255 : (x : Float) → le f255 x ≡ leb 255 (byteOf x)
@@ -178,3 +141,50 @@ cut-low x h = so (lt-le-trans (fin true 1 (pos 0)) f1 x refl h)
 pub cut-high : (x : Float) → le f1 x ≡ true → le f255 x ≡ false → T (lt x (fin false 1 (pos 64)))
 unfolding lt ofBits isNan
 cut-high x h g = so (lt-trans x f255 (fin false 1 (pos 64)) (lt-of-not x f255 (le-right f1 x h) refl g) refl)
+
+-- ---- the cast capped at 7, by way of a float from 0 to 7
+-- 7.0
+abbrev seven : Float
+seven = bits 0x40e0_0000
+
+at-7 : (x : Float) → le seven x ≡ leb 7 (byteOf x)
+unfolding ofBits
+at-7 x = threshold 8 7 0 x (lit< tt) (lit< tt)
+
+abbrev UpTo7 : Float → Float → Type 0
+UpTo7 x y = (le f0 y ≡ true) × (lt y f2^23 ≡ true) × (toUnsigned 64 y ≡ byteUpTo7 x)
+
+pub kept-is : (x : Float) → UpTo7 x (laneMin (laneMax x f0) seven)
+kept-is x = go (lt f0 x) refl
+  where
+    not-1 : (t : Bool) → le f1 x ≡ t → lt f0 x ≡ false → t ≡ false
+    not-1 true g h = clash (lt-le-trans f0 f1 x (unfold lt ofBits in refl) g) h
+    not-1 false g h = refl
+
+    capped : (n : ℕ) → 7 ≤ n → 7 ≡ min n 7
+    capped n h = omega arith
+
+    none-of : (n : ℕ) → 0 ≡ n → 0 ≡ min n 7
+    none-of n h = omega arith
+
+    under : lt f0 x ≡ true → (t : Bool) → lt x seven ≡ t → UpTo7 x (cond t x seven)
+    under h true g =
+        let c : toUnsigned 64 x ≤ 7 = unfold toUnsigned ofBits in cast-mono 64 x seven (le-of-lt x seven g) in
+        (le-of-lt f0 x h, lt-trans x seven f2^23 g (unfold lt ofBits in refl), omega (arith, byte-narrow x))
+    under h false g =
+        let c : 7 ≤ byteOf x = leb-true _ _ (sym (at-7 x) ∙ le-of-not seven x (unfold isNan ofBits in refl) (lt-right f0 x h) g) in
+        (unfold le lt ofBits in refl, unfold lt ofBits in refl, unfold toUnsigned ofBits in capped (byteOf x) c)
+
+    go : (t : Bool) → lt f0 x ≡ t → UpTo7 x (laneMin (cond t x f0) seven)
+    go true h = under h (lt x seven) refl
+    go false h = unfold le lt toUnsigned ofBits in (refl, refl, none-of (byteOf x) (byte-empty x (not-1 (le f1 x) refl h)))
+
+-- a whole number up to 7 as a float, cast back
+pub up-to-7-back : (x : Float) → T (inUnsigned binary32 32 (whole (byteUpTo7 x))) × (toUnsigned 32 (whole (byteUpTo7 x)) ≡ byteUpTo7 x)
+up-to-7-back x = unsigned-back binary32 32 (byteUpTo7 x) (few (byteOf x)) (small (byteOf x))
+  where
+    few : (n : ℕ) → T (inFloat binary32 (pos (min n 7)))
+    few n = unfold inFloat in le→leb (min n 7) (2 ^ 24) (omega arith)
+
+    small : (n : ℕ) → min n 7 < 2 ^ 32
+    small n = omega arith

@@ -10,6 +10,7 @@ pub mod WholePart
 pub mod Scan
 pub mod Ranges
 pub mod Monotone
+pub mod NearWhole
 pub mod Exactly
 pub mod Squares
 pub mod NotBelow

@@ -1,26 +1,22 @@
--- The whole part of a float: below 2 ^ 23 by way of an integer, with the sign put back; from there on every value is whole. Assumes nothing.
+-- The whole part of a float with its sign put back; from 2 ^ 23 on every value is whole. Assumes nothing.
 use mathlib.Core.Path.{_≡_, refl, sym, ap, _∙_, subst}
-use Prim.Native.Nat.{ℕ, zero, suc, _+_, _-_, _*_, _/_, _%_, _^_, _≤_, _<_, min}
-use native.Mathlib.Nat.{mul-one, div-one, pow-suc}
+use Prim.Native.Nat.{ℕ, zero, suc, _-_, _*_, _/_, _%_, _^_, _≤_, _<_, min}
+use native.Mathlib.Nat.{mul-one, mul-pos, div-one, pow-suc}
 use native.Mathlib.Omega.{arith}
 use mathlib.Core.Bool.{Bool, true, false, not, _&&_, cond}
 use lib.IntN.{ℤ, pos, negsuc}
 use lib.Dec.{T, leb, ltb, eqb, le→leb, ltb→lt, lit<}
 use lib.Pow.{pow-pos}
-use lib.Ieee.{Float, nan, inf, fin, binary32, emax, low, up, down, round, lt, eq, neg, fits, ofBits, ofInt, inFloat, toUnsigned}
-use lib.Ieee.Fits.{down-pos, round-fits, and-l, and-r}
+use lib.Ieee.{Float, nan, inf, fin, binary32, emax, low, up, down, round, lt, le, eq, ne, neg, isNan, fits, ofBits, ofInt, inFloat, toUnsigned}
+use lib.Ieee.Fits.{up-pos, round-fits, and-l, and-r}
 use lib.Ieee.Back.{round-whole, whole-unique}
-use borrow.Author.Tests.{lt-ltb, leb-false}
-use Rattle.floats.specs.Arithmetic.{bits, f0}
+use borrow.Author.Tests.{lt-ltb, leb-false, ne-eqb}
+use Rattle.floats.specs.Arithmetic.{whole, f0, f2^23}
 use Rattle.floats.specs.Helpers.{absOf, truncOf}
 use Rattle.floats.proofs.Tests.{so, clash}
-use Rattle.floats.proofs.Order.{lt-trans, lt-left, lt-right, le-is}
+use Rattle.floats.proofs.Order.{lt-trans, lt-left, lt-right, le-is, le-of-not, lt-le-trans}
 use Rattle.floats.proofs.Signs.{round-mirror, zero-exp, under-zero, over-zero}
 use Rattle.floats.proofs.Casts.{threshold}
-
--- 8388608.0
-abbrev pub f2^23 : Float
-f2^23 = bits 0x4b00_0000
 
 -- ---- the whole part, rounded with the sign
 whole-part : (s : Bool) (m : ℕ) (e : ℤ) → T (fits binary32 (fin s m e)) → m * up e / down e ≤ 2 ^ 24 → round binary32 s (m * up e / down e) 1 ≡ truncOf (fin s m e)
@@ -52,43 +48,12 @@ cut-is s m e h =
     few : (q n : ℕ) → n ≡ q → n < 2 ^ 23 → q ≤ 2 ^ 24
     few q n e h = omega arith
 
-pub trunc-small : (x : Float) → fits binary32 x ≡ true → lt (absOf x) f2^23 ≡ true → cond (lt x f0) (neg (cut x)) (cond (eq x f0) x (cut x)) ≡ truncOf x
-trunc-small nan p h = clash h (unfold lt in refl)
-trunc-small (inf s) p h = clash h (unfold lt ofBits in refl)
-trunc-small (fin s zero e) p h = at-zero s e (zero-exp e (unfold fits in so p))
-  where
-    plain : (s : Bool) (F : Float) → cond (lt (fin s 0 (pos 0)) f0) (neg F) (cond (eq (fin s 0 (pos 0)) f0) (fin s 0 (pos 0)) F) ≡ fin s 0 (pos 0)
-    plain true F = unfold lt eq ofBits in refl
-    plain false F = unfold lt eq ofBits in refl
-
-    at-zero : (s : Bool) (e : ℤ) → e ≡ pos 0 → cond (lt (fin s 0 e) f0) (neg (cut (fin s 0 e))) (cond (eq (fin s 0 e) f0) (fin s 0 e) (cut (fin s 0 e))) ≡ truncOf (fin s 0 e)
-    at-zero s e h = rw h (plain s (cut (fin s 0 (pos 0))))
-trunc-small (fin true (suc m) e) p h =
-    let k = cut-is true (suc m) e h in
-    rw (under-zero m e) (ap neg (k .0) ∙ sym (round-mirror binary32 (suc m * up e / down e) 1) ∙ whole-part true (suc m) e (so p) (k .1))
-trunc-small (fin false (suc m) e) p h =
-    let k = cut-is false (suc m) e h in
-    rw (over-zero m e .0, over-zero m e .1) (k .0 ∙ whole-part false (suc m) e (so p) (k .1))
-
--- ---- what the casts in between ask
-pub size-above : (x : Float) → lt (absOf x) f2^23 ≡ true → T (lt (fin true 1 (pos 0)) (absOf x))
-unfolding lt ofBits
-size-above nan h = clash h refl
-size-above (inf s) h = clash h refl
-size-above (fin s m e) h = so (lt-ltb 0 (1 * down e + m * up e * 1) (one-more (down e) (m * up e * 1) (down-pos e)))
-  where
-    one-more : (d n : ℕ) → 0 < d → 0 < 1 * d + n
-    one-more d n h = omega arith
-
-pub size-below : (x : Float) → lt (absOf x) f2^23 ≡ true → T (lt (absOf x) (fin false 1 (pos 64)))
-size-below x h = so (lt-trans (absOf x) f2^23 (fin false 1 (pos 64)) h (unfold lt ofBits in refl))
-
 pub whole-in : (n : ℕ) → n < 2 ^ 23 → T (inFloat binary32 (pos n))
 unfolding inFloat
 whole-in n h = le→leb n (2 ^ 24) (omega arith)
 
 -- ---- from 2 ^ 23 on
-digits : (s : Bool) (m : ℕ) (e : ℤ) → T (fits binary32 (fin s m e)) → m < 2 ^ 24
+pub digits : (s : Bool) (m : ℕ) (e : ℤ) → T (fits binary32 (fin s m e)) → m < 2 ^ 24
 unfolding fits
 digits s zero e p = lit< tt
 digits s (suc m) e p =
@@ -108,3 +73,59 @@ trunc-large nan p h = refl
 trunc-large (inf s) p h = refl
 trunc-large (fin s m (pos k)) p h = refl
 trunc-large (fin s m (negsuc k)) p h = clash (short m k (digits s m (negsuc k) (so p))) h
+
+-- ---- the code's two tests
+-- what `whole_part` promises of its answer r
+abbrev Whole : Float → Float → Type 0
+Whole x r = le f0 x ≡ true → lt x f2^23 ≡ true → r ≡ whole (toUnsigned 64 x)
+
+abbrev Trunc : Float → Float → Float → Type 0
+Trunc x r t = cond (ne x f0 && lt (neg f2^23) x && lt x f2^23) (cond (lt x f0) (neg r) t) x ≡ truncOf x
+
+from-0 : (m : ℕ) (e : ℤ) → le f0 (fin false (suc m) e) ≡ true
+from-0 m e = le-of-not f0 (fin false (suc m) e) (unfold isNan ofBits in refl) (unfold isNan in refl) (over-zero m e .0)
+
+under-ne : (m : ℕ) (e : ℤ) → ne (fin true (suc m) e) f0 ≡ true
+unfolding ne eq ofBits
+under-ne m e = ap (λ (b : Bool). not (b && eqb (suc m * up e * 1) 0)) (ne-eqb (suc m * up e * 1) (0 * down e) (other (suc m * up e) (down e) (mul-pos (omega arith) (up-pos e))))
+  where
+    other : (a d : ℕ) → 0 < a → a * 1 ≡ 0 * d → ⊥
+    other a d h e = omega arith
+
+over-ne : (m : ℕ) (e : ℤ) → ne (fin false (suc m) e) f0 ≡ true
+unfolding ne
+over-ne m e = ap not (over-zero m e .1)
+
+pub trunc-is : (x r t : Float) → fits binary32 x ≡ true → Whole (neg x) r → Whole x t → Trunc x r t
+trunc-is nan r t p h k = unfold ne eq lt neg ofBits in refl
+trunc-is (inf true) r t p h k = unfold ne eq lt neg ofBits in refl
+trunc-is (inf false) r t p h k = unfold ne eq lt neg ofBits in refl
+trunc-is (fin s zero e) r t p h k = at-zero s e (zero-exp e (unfold fits in so p))
+  where
+    plain : (s : Bool) → Trunc (fin s 0 (pos 0)) r t
+    plain true = unfold ne eq lt neg ofBits in refl
+    plain false = unfold ne eq lt neg ofBits in refl
+
+    at-zero : (s : Bool) (e : ℤ) → e ≡ pos 0 → Trunc (fin s 0 e) r t
+    at-zero s e h = rw h (plain s)
+trunc-is (fin true (suc m) e) r t p h k =
+    let x = fin true (suc m) e in
+    rw (under-ne m e, under-zero m e, lt-trans x f0 f2^23 (under-zero m e) (unfold lt ofBits in refl)) (go (lt (neg f2^23) x) refl)
+  where
+    positive : Whole (fin false (suc m) e) r
+    positive = unfold neg in h
+
+    small : (b : Bool) → lt (neg f2^23) (fin true (suc m) e) ≡ b → lt (fin false (suc m) e) f2^23 ≡ b
+    small b g = unfold lt neg ofBits in g
+
+    go : (b : Bool) → lt (neg f2^23) (fin true (suc m) e) ≡ b → cond (true && b && true) (neg r) (fin true (suc m) e) ≡ truncOf (fin true (suc m) e)
+    go true g =
+        let c = cut-is true (suc m) e (small true g) in
+        ap neg (positive (from-0 m e) (small true g) ∙ c .0) ∙ sym (round-mirror binary32 (suc m * up e / down e) 1) ∙ whole-part true (suc m) e (so p) (c .1)
+    go false g = trunc-large (fin true (suc m) e) p (small false g)
+trunc-is (fin false (suc m) e) r t p h k =
+    rw (over-ne m e, over-zero m e .0, lt-le-trans (neg f2^23) f0 (fin false (suc m) e) (unfold lt neg ofBits in refl) (from-0 m e)) (go (lt (fin false (suc m) e) f2^23) refl)
+  where
+    go : (b : Bool) → lt (fin false (suc m) e) f2^23 ≡ b → cond (true && true && b) t (fin false (suc m) e) ≡ truncOf (fin false (suc m) e)
+    go true g = let c = cut-is false (suc m) e g in k (from-0 m e) g ∙ c .0 ∙ whole-part false (suc m) e (so p) (c .1)
+    go false g = trunc-large (fin false (suc m) e) p g

@@ -43,3 +43,6 @@ f254 = bits 0x437e_0000
 
 abbrev pub f255 : Float
 f255 = bits 0x437f_0000
+
+abbrev pub f2^23 : Float
+f2^23 = bits 0x4b00_0000

@@ -1,7 +1,9 @@
 // What the Rust does by methods of f32 and of glam's Vec4, one lane at a time.
 ghost use mathlib.Core.Path.{_≡_};
-ghost use mathlib.Core.Bool.{cond};
+ghost use mathlib.Core.Bool.{cond, true};
 ghost use Prim.Native.Nat.{_≤_};
+ghost use lib.Ieee.{le, lt, toUnsigned};
+ghost use Rattle.floats.specs.Arithmetic.{f0, f2^23, whole};
 ghost use Rattle.floats.specs.Helpers.{absOf, minOf, maxOf, laneMin, laneMax, clampOf, entryClamp, truncOf, byteOf, byteUpTo7};
 
 // The Rust's (f32, f32).
@@ -57,16 +59,21 @@ pub fn entry_clamp(x: f32) -> f32
     lane_min(lane_max(x, 0.0), 1.0)
 }
 
-// From 2^23 on every f32 is whole; below, the cast to an integer and back drops the fraction, and the sign is put back.
+// The whole part of a y from 0 up to 2^23, with no cast: a sum with 2^23 has no place left for a fraction, so what is then taken away leaves
+// the whole number below y or the one above.
+fn whole_part(y: f32) -> f32
+    ensures { λ r. ⌜ (le f0 y ≡ true → lt y f2^23 ≡ true → r ≡ whole (toUnsigned 64 y)) ⌝ }
+{
+    let near = (y + 8388608.0) - 8388608.0;
+    near - pick(y < near, 1.0, 0.0)
+}
+
+// From 2^23 on every f32 is whole, and so is a zero, which keeps its sign.
 pub fn trunc(x: f32) -> f32
     ensures { λ r. ⌜ r ≡ truncOf x ⌝ }
 {
-    let size = abs(x);
-    if size < 8388608.0 {
-        let whole = std::num::truncating_f32_to_u64(size) as f32;
-        return pick(x < 0.0, -whole, pick(x == 0.0, x, whole));
-    }
-    x
+    let cut = pick(x < 0.0, -whole_part(-x), whole_part(x));
+    pick((x != 0.0) & (-8388608.0 < x) & (x < 8388608.0), cut, x)
 }
 
 // Rust's `x as u8`. The tests stand before the cast because std's truncation asks for a finite x in range.
@@ -89,12 +96,15 @@ pub fn one_if(t: bool) -> u32
     if t { 1 } else { 0 }
 }
 
-// `(x as u8).min(7)` as the number of whole numbers from 1 to 7 that x reaches. With no cast, and as wide as an f32, it vectorises.
+// `(x as u8).min(7)` as an f32.
+pub fn up_to_7(x: f32) -> f32
+    ensures { λ r. ⌜ r ≡ whole (byteUpTo7 x) ⌝ }
+{
+    whole_part(lane_min(lane_max(x, 0.0), 7.0))
+}
+
 pub fn byte_up_to_7(x: f32) -> u32
     ensures { λ r. ⌜ r ≡ byteUpTo7 x ⌝ }
 {
-    let low = one_if(x >= 1.0) + one_if(x >= 2.0);
-    let middle = one_if(x >= 3.0) + one_if(x >= 4.0);
-    let high = one_if(x >= 5.0) + one_if(x >= 6.0);
-    (low + middle) + (high + one_if(x >= 7.0))
+    up_to_7(x) as u32
 }
