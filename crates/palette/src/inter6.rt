@@ -76,12 +76,19 @@ impl Inter6Palette {
         floats::byte_up_to_7(pixel * self.factor1 + self.add1)
     }
 
-    // k counts sevenths: a blend7, or 8 less the index that a decoder reads.
+    // k counts sevenths: 8 less the index that a decoder reads.
     pub fn blended(self, k: u32) -> f32
         requires { ⌜ k ≤ 7 ⌝ }
         ensures { λ r. ⌜ r ≡ blendedOf self k ⌝ }
     {
         (k as f32) * self.factor2 + self.c1
+    }
+
+    // The value of a blend7, with no way over the integer.
+    fn value(self, pixel: f32) -> f32
+        ensures { λ r. ⌜ r ≡ blendedOf self (blend7Of self pixel) ⌝ }
+    {
+        floats::up_to_7(pixel * self.factor1 + self.add1) * self.factor2 + self.c1
     }
 
     // `map` is INDEX_MAP: a constant array that is read in a loop would be built anew at each turn.
@@ -90,7 +97,7 @@ impl Inter6Palette {
         ensures { λ r. ⌜ r ≡ closest6 self pixel ⌝ }
     {
         let k = self.blend7(pixel);
-        let value = self.blended(k);
+        let value = self.value(pixel);
         let at = k as usize;
         Closest {
             index: map[at],
@@ -123,9 +130,8 @@ impl Inter6Palette {
         let mut k = [0u32; 16];
         let mut e = [0.0f32; 16];
         for i in 0..16usize {
-            let n = self.blend7(b[i]);
-            k[i] = n;
-            e[i] = b[i] - self.blended(n);
+            k[i] = self.blend7(b[i]);
+            e[i] = b[i] - self.value(b[i]);
         }
         let map = Self::INDEX_MAP;
         Indexed {

@@ -52,8 +52,14 @@ mul-e c = search needs
 element-copy-out-e : tie.Need-element-copy-out-e Inv-loop μ-loop
 element-copy-out-e c = search needs
 
-blended-requires : tie.Need-blended-requires Inv-loop μ-loop
-blended-requires c κs = search needs
+mul-value : tie.Need-mul-value Inv-loop μ-loop
+mul-value c = search needs
+
+element-copy-out-value : tie.Need-element-copy-out-value Inv-loop μ-loop
+element-copy-out-value c = search needs
+
+value-requires : tie.Need-value-requires Inv-loop μ-loop
+value-requires c κs = search needs
 
 mul-e-2 : tie.Need-mul-e-2 Inv-loop μ-loop
 mul-e-2 c = search needs
@@ -69,13 +75,13 @@ loop-less c = search needs
 
 loop-again : tie.Need-loop-again Inv-loop μ-loop
 loop-again c =
-    let n = c .before .before in
+    let n = c .before .before .before in
     let h = n .before .before .before in
     let a = h .before .args in
     let t = n .before .before .loop-test .taken in (
       search needs,
       fill-step 0 (sevenths (a .self) (a .b .now)) 16 (h .loop .k) (h .loop .i) (n .blend7 .result) (h .loop .inv .1) t (n .blend7 .ensures .0),
-      fill-step nan (off (a .self) (a .b .now)) 16 (h .loop .e) (h .loop .i) _ (h .loop .inv .2) t (rw (c .blended .ensures, n .blend7 .ensures .0) refl),
+      fill-step nan (off (a .self) (a .b .now)) 16 (h .loop .e) (h .loop .i) _ (h .loop .inv .2) t (rw (c .value .ensures) refl),
     )
 
 indexes-requires : tie.Need-indexes-requires Inv-loop μ-loop
@@ -112,7 +118,9 @@ block-closest-spec =
     array-write-k
     mul-e
     element-copy-out-e
-    blended-requires
+    mul-value
+    element-copy-out-value
+    value-requires
     mul-e-2
     array-write-e
     add-i
