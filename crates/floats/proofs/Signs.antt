@@ -1,4 +1,4 @@
--- Signs: `round` gives a value of the sign that it is handed, and the same size for either; a negation turns the order round; abs by tests. Assumes nothing.
+-- Signs: `round` gives a value of the sign that it is handed, and the same size for either; a negation turns the order round. Zeros. Assumes nothing.
 use mathlib.Core.Path.{_≡_, refl, sym, ap, _∙_, subst}
 use Prim.Native.Nat.{ℕ, zero, suc, _+_, _*_, _^_, _≤_, _<_}
 use native.Mathlib.Nat.{pow-suc, mul-pos, add-comm}
@@ -7,14 +7,14 @@ use mathlib.Core.Bool.{Bool, true, false, not, _&&_, _||_, cond}
 use lib.IntN.{ℤ, pos, negsuc}
 use lib.Pow.{pow-pos}
 use lib.Dec.{T, ltb, eqb, eqb→eq}
-use lib.Ieee.{Float, nan, inf, fin, Format, binary32, prec, emax, low, up, down, odd, units, round, lt, le, eq, neg, fits, ofBits}
+use lib.Ieee.{Float, nan, inf, fin, Format, prec, emax, low, up, down, odd, units, round, lt, le, eq, neg, isNan, ofBits}
 use lib.Ieee.Fits.{round-is, up-pos, eq→eqb}
 use lib.Ieee.Order.{drop, kept}
 use borrow.Author.Tests.{lt-ltb, le-ltb, ne-eqb}
 use Rattle.floats.specs.Arithmetic.{f0}
-use Rattle.floats.specs.Helpers.{absOf}
-use Rattle.floats.proofs.Tests.{so, iff}
+use Rattle.floats.proofs.Tests.{iff}
 use Rattle.floats.proofs.Fractions.{le-mix, le-over}
+use Rattle.floats.proofs.Order.{le-of-not}
 
 -- ---- x has the sign s, and is no NaN
 abbrev pub SignedBy : Bool → Float → Type 0
@@ -81,7 +81,7 @@ neg-le (fin false m e) (fin true n d) = zeros (m * up e * down d) (n * up d * do
 neg-le (fin true m e) (fin false n d) = le-over (m * up e * down d) (n * up d * down e) ∙ sym (le-over (n * up d * down e) (m * up e * down d))
 neg-le (fin true m e) (fin true n d) = ap (λ (k : Bool). ltb (n * up d * down e) (m * up e * down d) || (k && true)) (eqb-comm (m * up e * down d) (n * up d * down e))
 
--- ---- abs by tests
+-- ---- zeros, and what is not zero
 big : (p : ℕ) → 0 < p → p * 2 * 1 ≡ 1 → ⊥
 big p h e = omega arith
 
@@ -119,17 +119,5 @@ over-zero m e = (
     other : (a d : ℕ) → 0 < a → a * 1 ≡ 0 * d → ⊥
     other a d h e = omega arith
 
-pub abs-is : (x : Float) → fits binary32 x ≡ true → cond (lt x f0) (neg x) (cond (eq x f0) f0 x) ≡ absOf x
-abs-is nan h = unfold lt eq ofBits in refl
-abs-is (inf true) h = unfold lt neg ofBits in refl
-abs-is (inf false) h = unfold lt eq ofBits in refl
-abs-is (fin s zero e) h = at-zero s e (zero-exp e (unfold fits in so h))
-  where
-    plain : (s : Bool) → cond (lt (fin s 0 (pos 0)) f0) (neg (fin s 0 (pos 0))) (cond (eq (fin s 0 (pos 0)) f0) f0 (fin s 0 (pos 0))) ≡ fin false 0 (pos 0)
-    plain true = unfold lt eq neg ofBits in refl
-    plain false = unfold lt eq neg ofBits in refl
-
-    at-zero : (s : Bool) (e : ℤ) → e ≡ pos 0 → cond (lt (fin s 0 e) f0) (neg (fin s 0 e)) (cond (eq (fin s 0 e) f0) f0 (fin s 0 e)) ≡ fin false 0 e
-    at-zero s e h = rw h (plain s)
-abs-is (fin true (suc m) e) h = rw (under-zero m e) (unfold neg in refl)
-abs-is (fin false (suc m) e) h = rw (over-zero m e .0, over-zero m e .1)
+pub above-zero : (m : ℕ) (e : ℤ) → le f0 (fin false (suc m) e) ≡ true
+above-zero m e = le-of-not f0 (fin false (suc m) e) (unfold isNan ofBits in refl) (unfold isNan in refl) (over-zero m e .0)

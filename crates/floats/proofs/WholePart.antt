@@ -7,15 +7,15 @@ use mathlib.Core.Bool.{Bool, true, false, not, _&&_, cond}
 use lib.IntN.{ℤ, pos, negsuc}
 use lib.Dec.{T, leb, ltb, eqb, le→leb, ltb→lt, lit<}
 use lib.Pow.{pow-pos}
-use lib.Ieee.{Float, nan, inf, fin, binary32, emax, low, up, down, round, lt, le, eq, ne, neg, isNan, fits, ofBits, ofInt, inFloat, toUnsigned}
+use lib.Ieee.{Float, nan, inf, fin, binary32, emax, low, up, down, round, lt, le, eq, ne, neg, fits, ofBits, ofInt, inFloat, toUnsigned}
 use lib.Ieee.Fits.{up-pos, round-fits, and-l, and-r}
 use lib.Ieee.Back.{round-whole, whole-unique}
 use borrow.Author.Tests.{lt-ltb, leb-false, ne-eqb}
 use Rattle.floats.specs.Arithmetic.{whole, f0, f2^23}
 use Rattle.floats.specs.Helpers.{absOf, truncOf}
 use Rattle.floats.proofs.Tests.{so, clash}
-use Rattle.floats.proofs.Order.{lt-trans, lt-left, lt-right, le-is, le-of-not, lt-le-trans}
-use Rattle.floats.proofs.Signs.{round-mirror, zero-exp, under-zero, over-zero}
+use Rattle.floats.proofs.Order.{lt-trans, lt-left, lt-right, le-is, lt-le-trans}
+use Rattle.floats.proofs.Signs.{round-mirror, zero-exp, under-zero, over-zero, above-zero}
 use Rattle.floats.proofs.Casts.{threshold}
 
 -- ---- the whole part, rounded with the sign
@@ -82,9 +82,6 @@ Whole x r = le f0 x ≡ true → lt x f2^23 ≡ true → r ≡ whole (toUnsigned
 abbrev Trunc : Float → Float → Float → Type 0
 Trunc x r t = cond (ne x f0 && lt (neg f2^23) x && lt x f2^23) (cond (lt x f0) (neg r) t) x ≡ truncOf x
 
-from-0 : (m : ℕ) (e : ℤ) → le f0 (fin false (suc m) e) ≡ true
-from-0 m e = le-of-not f0 (fin false (suc m) e) (unfold isNan ofBits in refl) (unfold isNan in refl) (over-zero m e .0)
-
 under-ne : (m : ℕ) (e : ℤ) → ne (fin true (suc m) e) f0 ≡ true
 unfolding ne eq ofBits
 under-ne m e = ap (λ (b : Bool). not (b && eqb (suc m * up e * 1) 0)) (ne-eqb (suc m * up e * 1) (0 * down e) (other (suc m * up e) (down e) (mul-pos (omega arith) (up-pos e))))
@@ -121,11 +118,11 @@ trunc-is (fin true (suc m) e) r t p h k =
     go : (b : Bool) → lt (neg f2^23) (fin true (suc m) e) ≡ b → cond (true && b && true) (neg r) (fin true (suc m) e) ≡ truncOf (fin true (suc m) e)
     go true g =
         let c = cut-is true (suc m) e (small true g) in
-        ap neg (positive (from-0 m e) (small true g) ∙ c .0) ∙ sym (round-mirror binary32 (suc m * up e / down e) 1) ∙ whole-part true (suc m) e (so p) (c .1)
+        ap neg (positive (above-zero m e) (small true g) ∙ c .0) ∙ sym (round-mirror binary32 (suc m * up e / down e) 1) ∙ whole-part true (suc m) e (so p) (c .1)
     go false g = trunc-large (fin true (suc m) e) p (small false g)
 trunc-is (fin false (suc m) e) r t p h k =
-    rw (over-ne m e, over-zero m e .0, lt-le-trans (neg f2^23) f0 (fin false (suc m) e) (unfold lt neg ofBits in refl) (from-0 m e)) (go (lt (fin false (suc m) e) f2^23) refl)
+    rw (over-ne m e, over-zero m e .0, lt-le-trans (neg f2^23) f0 (fin false (suc m) e) (unfold lt neg ofBits in refl) (above-zero m e)) (go (lt (fin false (suc m) e) f2^23) refl)
   where
     go : (b : Bool) → lt (fin false (suc m) e) f2^23 ≡ b → cond (true && true && b) t (fin false (suc m) e) ≡ truncOf (fin false (suc m) e)
-    go true g = let c = cut-is false (suc m) e g in k (from-0 m e) g ∙ c .0 ∙ whole-part false (suc m) e (so p) (c .1)
+    go true g = let c = cut-is false (suc m) e g in k (above-zero m e) g ∙ c .0 ∙ whole-part false (suc m) e (so p) (c .1)
     go false g = trunc-large (fin false (suc m) e) p g

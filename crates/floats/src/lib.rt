@@ -16,10 +16,11 @@ pub fn pick(t: bool, a: f32, b: f32) -> f32
     if t { a } else { b }
 }
 
+// The larger of x and 0 - x, which is +0 for both zeros.
 pub fn abs(x: f32) -> f32
     ensures { λ r. ⌜ r ≡ absOf x ⌝ }
 {
-    pick(x < 0.0, -x, pick(x == 0.0, 0.0, x))
+    lane_max(x, 0.0 - x)
 }
 
 pub fn min(a: f32, b: f32) -> f32
