@@ -2,29 +2,44 @@
 use mathlib.Core.Path.{_≡_, refl}
 use mathlib.Core.Bool.{Bool, true, false, _&&_}
 use mathlib.Core.List.{List}
-use Prim.Native.Nat.{ℕ, zero, suc, _+_, _*_, _<_}
+use Prim.Native.Nat.{ℕ, zero, suc, _+_, _*_, _%_, _<_}
+use native.Mathlib.Nat.{add-zero}
 use native.Mathlib.Numerals.{add-one}
 use native.Mathlib.Omega.{arith}
 use lib.ListN.{getD}
-use lib.Dec.{T}
+use lib.Dec.{T, ltb}
 use lib.Ieee.{Float, nan, ofBits, ofInt, div}
-use Rattle.floats.specs.Arithmetic.{_⊕_, _⊖_, _⊘_, squared, whole, f0}
-use Rattle.floats.proofs.Tests.{clash}
+use Rattle.floats.specs.Arithmetic.{_⊕_, _⊖_, _⊗_, _⊘_, squared, whole, f0}
 use Rattle.floats.proofs.Table.{all, at, same, same→eq}
 use Rattle.block.specs.Samples.{pixelAt, perPixel}
 use Rattle.index_list.specs.Indexes.{indexAt, setAt, filledTo}
 use Rattle.index_list.proofs.Laws.{filled-unset}
 use Rattle.palette.specs.declared.Closest.{Closest}
-use Rattle.bcn_util.specs.Diffusion.{sixteenths, weights, diffused}
+use Rattle.bcn_util.specs.Diffusion.{sixteenths, weights, given, diffused}
 use Rattle.bcn_util.specs.Dither.{ditherStep, ditherTo}
 
-pub and-first : (p q : Bool) → (p && q) ≡ true → p ≡ true
-and-first true q h = refl
-and-first false q h = clash h refl
+and-true : (p : Bool) → (p && true) ≡ p
+and-true true = refl
+and-true false = refl
 
-pub and-second : (p q : Bool) → (p && q) ≡ true → q ≡ true
-and-second true q h = h
-and-second false q h = clash h refl
+and-false : (p : Bool) → (p && false) ≡ false
+and-false true = refl
+and-false false = refl
+
+-- ---- one pixel above the last row, and one in it
+module _ (m : List Float) (i : ℕ) (error : Float) where
+  abbrev part : ℕ → Float
+  part k = error ⊗ getD weights k nan
+
+  pub diffused-above : ltb i 12 ≡ true
+      → diffused m i error
+      ≡ given (ltb (i % 4) 3) (given true (given (ltb 0 (i % 4)) (given (ltb (i % 4) 3) m (i + 1) (part (4 * (i % 4)))) (i + 3) (part (4 * (i % 4) + 1))) (i + 4) (part (4 * (i % 4) + 2))) (i + 5) (part (4 * (i % 4) + 3))
+  unfolding diffused
+  diffused-above h = rw (h, and-true (ltb (i % 4) 3), and-true (ltb 0 (i % 4)), add-zero (4 * (i % 4))) refl
+
+  pub diffused-last : ltb i 12 ≡ false → diffused m i error ≡ given (ltb (i % 4) 3) m (i + 1) (part 16)
+  unfolding diffused given
+  diffused-last h = rw (h, and-false (ltb (i % 4) 3), and-false (ltb 0 (i % 4))) refl
 
 module _ (rule : Float → Closest) (b : List Float) where
   -- what the loop holds after i pixels

@@ -1,9 +1,9 @@
 // block_dither.
 ghost use mathlib.Core.Path.{_≡_};
 ghost use mathlib.Core.Bool.{true};
-ghost use Prim.Native.Nat.{_<_, _≤_};
+ghost use Prim.Native.Nat.{_<_};
 ghost use Rattle.palette.specs.Closest.{closest6, closest4};
-ghost use Rattle.bcn_util.specs.Diffusion.{weights, tableRow, given, diffused};
+ghost use Rattle.bcn_util.specs.Diffusion.{weights, given, diffused};
 ghost use Rattle.bcn_util.specs.Dither.{blockDither};
 use index_list::IndexList;
 use palette::Indexed;
@@ -34,12 +34,6 @@ pub const WEIGHTS: [f32; 20] = [
     0.0,
 ];
 
-fn table_row(i: usize) -> usize
-    ensures { λ r. ⌜ (r ≡ tableRow i) × (r ≤ 4) ⌝ }
-{
-    if i < 12 { i % 4 } else { 4 }
-}
-
 // Where the block has no pixel j nothing is given.
 fn give(m: &mut [f32; 16], there: bool, j: usize, v: f32)
     requires { ⌜ (there ≡ true → j < 16) ⌝ }
@@ -56,14 +50,17 @@ pub fn diffuse(m: &mut [f32; 16], w: &[f32; 20], i: usize, error: f32)
     ensures { λ r. ⌜ now (m .exit) ≡ diffused (now (m .entry)) i error ⌝ }
 {
     let x = i % 4;
-    let below = i < 12;
-    let row = 4 * table_row(i);
-    give(m, x < 3, i + 1, error * w[row]);
-    give(m, (0 < x) & below, i + 3, error * w[row + 1]);
-    give(m, below, i + 4, error * w[row + 2]);
-    give(m, (x < 3) & below, i + 5, error * w[row + 3]);
+    if i < 12 {
+        give(m, x < 3, i + 1, error * w[4 * x]);
+        give(m, 0 < x, i + 3, error * w[4 * x + 1]);
+        give(m, true, i + 4, error * w[4 * x + 2]);
+        give(m, x < 3, i + 5, error * w[4 * x + 3]);
+        return;
+    }
+    give(m, x < 3, i + 1, error * w[16]);
 }
 
+// The error goes without its sign's being cleared: it is only squared.
 pub fn dither6(p: Inter6Palette, b: &[f32; 16]) -> Indexed
     ensures { λ r. ⌜ r ≡ blockDither (closest6 p) (now (b .entry)) ⌝ }
 {
@@ -76,8 +73,9 @@ pub fn dither6(p: Inter6Palette, b: &[f32; 16]) -> Indexed
         let pixel = b[i] + map[i];
         let c = p.closest(&index_map, pixel);
         list = list.set(i, c.index);
-        total = total + c.error * c.error;
-        diffuse(&mut map, &w, i, pixel - c.value);
+        let off = pixel - c.value;
+        total = total + off * off;
+        diffuse(&mut map, &w, i, off);
     }
     Indexed {
         indexes: list,

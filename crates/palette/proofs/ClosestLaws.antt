@@ -7,7 +7,7 @@ use native.Mathlib.Nat.{mod-eq-of-lt}
 use native.Mathlib.Omega.{arith}
 use lib.ListN.{getD}
 use lib.Ieee.{Float, lt, le}
-use Rattle.floats.specs.Arithmetic.{_⊕_, _⊖_, _⊗_, whole, half}
+use Rattle.floats.specs.Arithmetic.{_⊕_, _⊖_, _⊗_, squared, whole, half}
 use Rattle.floats.specs.Helpers.{absOf, byteOf}
 use Rattle.floats.proofs.Squares.{square-abs}
 use Rattle.block.specs.Samples.{tabulate, perPixel}
@@ -108,6 +108,11 @@ closest6-value p x = rw (map-back (blend7 p x) (blend7-le p x))
 pub closest6-at-0 : (p : Inter6Palette) (x : Float) → closest6 p x .index ≡ 0 → closest6 p x .value ≡ whole 7 ⊗ p .factor2 ⊕ p .c1
 unfolding blended
 closest6-at-0 p x e = closest6-value p x ∙ rw e
+
+-- its error squared, with the sign or without
+pub closest6-squared : (p : Inter6Palette) (x : Float) → squared (closest6 p x .error) ≡ squared (x ⊖ closest6 p x .value)
+unfolding closest6
+closest6-squared p x = square-abs (x ⊖ blended p (blend7 p x))
 
 -- ---- a whole block
 -- what the code packs, by way of an array of sixteen numbers below 8 and a map

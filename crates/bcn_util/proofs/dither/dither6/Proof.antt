@@ -2,9 +2,10 @@ use mathlib.Core.Path.{_≡_, refl}
 use native.Mathlib.Omega.{arith}
 use Prim.Native.Nat.{_≤_, _-_}
 use borrow.Author.Needs.{needs}
-use Rattle.block.specs.Samples.{tabulate}
+use Rattle.floats.specs.Arithmetic.{_⊕_, _⊖_, squared}
+use Rattle.block.specs.Samples.{pixelAt, tabulate}
 use Rattle.palette.specs.Closest.{closest6}
-use Rattle.palette.proofs.ClosestLaws.{closest6-lt, indexed-is}
+use Rattle.palette.proofs.ClosestLaws.{closest6-lt, closest6-squared, indexed-is}
 use Rattle.bcn_util.specs.Diffusion.{weights}
 use Rattle.bcn_util.proofs.DitherLaws.{Reached, reached-start, reached-step, reached-unset}
 use Rattle.bcn_util.proofs.dither.dither6.Statement.{statement}
@@ -57,13 +58,15 @@ loop-less c = search needs
 
 loop-again : tie.Need-loop-again Inv-loop μ-loop
 loop-again c =
-    let s = c .before .before .before .before .before in
+    let s = c .before .before .before .before in
     let k = s .before in
     let h = k .before .before .before .before in
     let p = h .before .before .args .p in
     let b = h .before .before .args .b .now in
     let step = reached-step (closest6 p) b (h .loop .i) (h .loop .map) (h .loop .list .«data») (h .loop .total) (k .closest .result) (h .loop .inv .1) (k .closest .ensures) in
-    (search needs, rw (c .diffuse .ensures, s .set .ensures) step)
+    let pixel = pixelAt b (h .loop .i) ⊕ pixelAt (h .loop .map) (h .loop .i) in
+    let off : squared (k .closest .result .error) ≡ squared (pixel ⊖ k .closest .result .value) = rw (k .closest .ensures) (closest6-squared p pixel) in
+    (search needs, rw (c .diffuse .ensures, s .set .ensures, ← off) step)
 
 returns : tie.Need-returns Inv-loop μ-loop
 returns c =
