@@ -1,22 +1,23 @@
 -- The whole part of a float with its sign put back; from 2 ^ 23 on every value is whole. Assumes nothing.
 use mathlib.Core.Path.{_≡_, refl, sym, ap, _∙_, subst}
+use mathlib.Core.Logic.{_⊎_, inl, inr}
 use Prim.Native.Nat.{ℕ, zero, suc, _-_, _*_, _/_, _%_, _^_, _≤_, _<_, min}
-use native.Mathlib.Nat.{mul-one, mul-pos, div-one, pow-suc}
+use native.Mathlib.Nat.{mul-one, mul-pos, div-one, div-eq-of-lt, pow-suc}
 use native.Mathlib.Omega.{arith}
 use mathlib.Core.Bool.{Bool, true, false, not, _&&_, cond}
 use lib.IntN.{ℤ, pos, negsuc}
 use lib.Dec.{T, leb, ltb, eqb, le→leb, ltb→lt, lit<}
 use lib.Pow.{pow-pos}
-use lib.Ieee.{Float, nan, inf, fin, binary32, emax, low, up, down, round, lt, le, eq, ne, neg, fits, ofBits, ofInt, inFloat, toUnsigned}
+use lib.Ieee.{Float, nan, inf, fin, binary32, emax, low, up, down, round, lt, le, eq, ne, neg, isNan, fits, ofBits, ofInt, inFloat, toUnsigned}
 use lib.Ieee.Fits.{up-pos, round-fits, and-l, and-r}
 use lib.Ieee.Back.{round-whole, whole-unique}
-use borrow.Author.Tests.{lt-ltb, leb-false, ne-eqb}
-use Rattle.floats.specs.Arithmetic.{whole, f0, f2^23}
-use Rattle.floats.specs.Helpers.{absOf, truncOf}
+use borrow.Author.Tests.{lt-ltb, ltb-true, leb-false, ne-eqb}
+use Rattle.floats.specs.Arithmetic.{whole, bits, f0, f1, f2^23}
+use Rattle.floats.specs.Helpers.{absOf, laneMin, truncOf, byteOf, byteUpTo7}
 use Rattle.floats.proofs.Tests.{so, clash}
-use Rattle.floats.proofs.Order.{lt-trans, lt-left, lt-right, le-is, lt-le-trans}
+use Rattle.floats.proofs.Order.{lt-trans, lt-left, lt-right, le-is, le-of-lt, le-of-not, lt-le-trans}
 use Rattle.floats.proofs.Signs.{round-mirror, zero-exp, under-zero, over-zero, above-zero}
-use Rattle.floats.proofs.Casts.{threshold}
+use Rattle.floats.proofs.Casts.{byteOf-mono, threshold}
 
 -- ---- the whole part, rounded with the sign
 whole-part : (s : Bool) (m : ℕ) (e : ℤ) → T (fits binary32 (fin s m e)) → m * up e / down e ≤ 2 ^ 24 → round binary32 s (m * up e / down e) 1 ≡ truncOf (fin s m e)
@@ -126,3 +127,51 @@ trunc-is (fin false (suc m) e) r t p h k =
     go : (b : Bool) → lt (fin false (suc m) e) f2^23 ≡ b → cond (true && true && b) t (fin false (suc m) e) ≡ truncOf (fin false (suc m) e)
     go true g = let c = cut-is false (suc m) e g in k (above-zero m e) g ∙ c .0 ∙ whole-part false (suc m) e (so p) (c .1)
     go false g = trunc-large (fin false (suc m) e) p g
+
+-- ---- above -1 the whole part is the cast, but for the sign of a zero
+abbrev f7 : Float
+f7 = bits 0x40e0_0000
+
+abbrev Capped : Float → Float → Type 0
+Capped x t = (t ≡ whole (byteUpTo7 x)) ⊎ ((t ≡ fin true 0 (pos 0)) × (byteUpTo7 x ≡ 0))
+
+below : (x : Float) → fits binary32 x ≡ true → lt (neg f1) x ≡ true → lt x f7 ≡ true → Capped x (truncOf x)
+below nan p h g = clash g (unfold lt in refl)
+below (inf true) p h g = clash h (unfold lt neg ofBits in refl)
+below (inf false) p h g = clash g (unfold lt ofBits in refl)
+below (fin true zero (pos k)) p h g = inr (at-zero (pos k) (zero-exp (pos k) (unfold fits in so p)), unfold toUnsigned in refl)
+  where
+    at-zero : (e : ℤ) → e ≡ pos 0 → fin true 0 e ≡ fin true 0 (pos 0)
+    at-zero e h = ap (fin true 0) h
+below (fin true (suc m) (pos k)) p h g =
+    let l : 0 < suc m * 2 ^ k = mul-pos (omega arith) (pow-pos k) in
+    absurd (omega (arith, ltb-true (suc m * 2 ^ k * 1) 1 (unfold lt neg ofBits in h)))
+below (fin true m (negsuc k)) p h g =
+    let l : m < 2 ^ suc k = less m (2 ^ suc k) (ltb-true (m * 1 * 1) (1 * 1 * 2 ^ suc k) (unfold lt neg ofBits in h)) in
+    inr (ap (λ (n : ℕ). round binary32 true n 1) (div-eq-of-lt l) ∙ (unfold round in refl), unfold toUnsigned in refl)
+  where
+    less : (m d : ℕ) → m * 1 * 1 < 1 * 1 * d → m < d
+    less m d h = omega arith
+below (fin false m e) p h g =
+    let c : byteOf (fin false m e) ≤ 7 = unfold toUnsigned ofBits in byteOf-mono (fin false m e) f7 (le-of-lt (fin false m e) f7 g) in
+    let q : m * up e / down e ≤ 7 = few (m * up e / down e) (unfold toUnsigned in c) in
+    inl (sym (whole-part false m e (so p) (omega arith)) ∙ (unfold ofInt toUnsigned in ap (λ (n : ℕ). round binary32 false n 1) (kept (m * up e / down e) q)))
+  where
+    few : (n : ℕ) → min n 255 ≤ 7 → n ≤ 7
+    few n h = omega arith
+
+    kept : (n : ℕ) → n ≤ 7 → n ≡ min (min n 255) 7
+    kept n h = omega arith
+
+pub trunc-capped : (x : Float) → fits binary32 x ≡ true → lt (neg f1) x ≡ true → Capped x (truncOf (laneMin x f7))
+trunc-capped x p h = go (lt x f7) refl
+  where
+    at-7 : lt x f7 ≡ false → 7 ≤ byteOf x
+    at-7 g = unfold toUnsigned ofBits in byteOf-mono f7 x (le-of-not f7 x (unfold isNan ofBits in refl) (lt-right (neg f1) x h) g)
+
+    full : (n : ℕ) → 7 ≤ n → min n 7 ≡ 7
+    full n k = omega arith
+
+    go : (t : Bool) → lt x f7 ≡ t → Capped x (truncOf (cond t x f7))
+    go false g = inl (unfold ofBits ofInt in ap whole (sym (full (byteOf x) (at-7 g))))
+    go true g = below x p h g

@@ -1,14 +1,18 @@
 -- `closest` answers an index below 8, and the value is the palette's entry there. Assumes nothing.
 use mathlib.Core.Path.{_≡_, refl, ap₂, _∙_}
+use mathlib.Core.Logic.{⊎-elim}
 use mathlib.Core.Bool.{Bool, true, false, cond}
 use mathlib.Core.List.{List, [], _∷_}
 use Prim.Native.Nat.{ℕ, zero, suc, _-_, _%_, _≤_, _<_, min}
 use native.Mathlib.Nat.{mod-eq-of-lt}
 use native.Mathlib.Omega.{arith}
 use lib.ListN.{getD}
-use lib.Ieee.{Float, lt, le}
-use Rattle.floats.specs.Arithmetic.{_⊕_, _⊖_, _⊗_, squared, whole, half}
+use lib.Ieee.{Float, binary32, lt, le, neg, add, sub, mul, ofBits, ofInt}
+use lib.Ieee.Bits.{is-true}
+use lib.Ieee.Fits.{add-fits}
+use Rattle.floats.specs.Arithmetic.{_⊕_, _⊖_, _⊗_, squared, whole, half, f1}
 use Rattle.floats.specs.Helpers.{absOf, byteOf}
+use Rattle.floats.proofs.WholePart.{trunc-capped}
 use Rattle.floats.proofs.Squares.{square-abs}
 use Rattle.block.specs.Samples.{tabulate, perPixel}
 use Rattle.block.specs.Orders.{rowDot, sumOfSquares}
@@ -19,8 +23,8 @@ use Rattle.index_list.specs.declared.IndexList.{IndexList}
 use Rattle.palette.specs.declared.Indexed.{Indexed}
 use Rattle.palette.specs.declared.inter4.Nearest.{Nearest}
 use Rattle.palette.specs.declared.inter6.Inter6Palette.{Inter6Palette}
-use Rattle.palette.specs.Palettes.{entry, indexMap, blended}
-use Rattle.palette.specs.Closest.{blend, blend7, closest6, defaultOf, nearerOf, nearestTo, closest4}
+use Rattle.palette.specs.Palettes.{entry, seventh, indexMap, blended}
+use Rattle.palette.specs.Closest.{blend, blend7, weight, closest6, defaultOf, nearerOf, nearestTo, closest4}
 
 -- ---- four values
 -- a choice between two records, field by field as the code makes it
@@ -113,6 +117,18 @@ closest6-at-0 p x e = closest6-value p x ∙ rw e
 pub closest6-squared : (p : Inter6Palette) (x : Float) → squared (closest6 p x .error) ≡ squared (x ⊖ closest6 p x .value)
 unfolding closest6
 closest6-squared p x = square-abs (x ⊖ blended p (blend7 p x))
+
+-- ---- the weight, where the blend is above -1
+abbrev pub cappedWeight : Inter6Palette → Float → Float
+cappedWeight p x = f1 ⊖ whole (blend7 p x) ⊗ seventh
+
+pub weight-above : (p : Inter6Palette) (x : Float) → lt (neg f1) (blend p x) ≡ true → cappedWeight p x ≡ weight p x
+unfolding weight
+weight-above p x h =
+    ⊎-elim
+    (λ t. rw t refl)
+    (λ t. rw (t .0, t .1) (unfold sub mul add neg ofBits ofInt in refl))
+    (trunc-capped (blend p x) (is-true _ (add-fits binary32 (x ⊗ p .factor1) (p .add1))) h)
 
 -- ---- a whole block
 -- what the code packs, by way of an array of sixteen numbers below 8 and a map
