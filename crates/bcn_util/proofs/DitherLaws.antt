@@ -33,7 +33,14 @@ module _ (m : List Float) (i : ℕ) (error : Float) where
 
   pub diffused-above : ltb i 12 ≡ true
       → diffused m i error
-      ≡ given (ltb (i % 4) 3) (given true (given (ltb 0 (i % 4)) (given (ltb (i % 4) 3) m (i + 1) (part (4 * (i % 4)))) (i + 3) (part (4 * (i % 4) + 1))) (i + 4) (part (4 * (i % 4) + 2))) (i + 5) (part (4 * (i % 4) + 3))
+      ≡ given (ltb (i % 4) 3)
+      (given true
+      (given (ltb 0 (i % 4))
+      (given (ltb (i % 4) 3) m
+      (i + 1) (part (4 * (i % 4))))
+      (i + 3) (part (4 * (i % 4) + 1)))
+      (i + 4) (part (4 * (i % 4) + 2)))
+      (i + 5) (part (4 * (i % 4) + 3))
   unfolding diffused
   diffused-above h = rw (h, and-true (ltb (i % 4) 3), and-true (ltb 0 (i % 4)), add-zero (4 * (i % 4))) refl
 

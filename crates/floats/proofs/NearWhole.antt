@@ -1,5 +1,5 @@
--- The whole part of a float below 2 ^ 23 by a sum and a difference. From 2 ^ 23 to 2 ^ 24 the floats are the whole numbers, so the sum with 2 ^ 23 is the
--- whole number below or the one above, whichever way it was rounded. Assumes nothing.
+-- The whole part of a float below 2 ^ 23 by a sum and a difference. From 2 ^ 23 to 2 ^ 24 the floats are the whole numbers, so the sum with
+-- 2 ^ 23 is the whole number below or the one above, whichever way it was rounded. Assumes nothing.
 use mathlib.Core.Path.{_≡_, refl, sym, ap, _∙_, subst}
 use mathlib.Core.Logic.{_⊎_, inl, inr, ⊎-elim, dite}
 use Prim.Native.Nat.{ℕ, zero, suc, _+_, _-_, _*_, _/_, _%_, _^_, _≤_, _<_, min}
@@ -75,7 +75,8 @@ module _ (N : ℕ) (l : 2 ^ 23 ≤ N) (h : N < 2 ^ 24) where
   near : (v d : ℕ) → 0 < d → N * d ≤ v → v ≤ N * d + d → (round binary32 false v d ≡ W N) ⊎ (round binary32 false v d ≡ W (suc N))
   near v d D a b =
       let u : T (le (W N) (round binary32 false v d)) = round-mono binary32 N 1 v d (lit< tt) D (omega arith) in
-      let k : T (le (round binary32 false v d) (W (suc N))) = round-mono binary32 v d (suc N) 1 D (lit< tt) (subst (λ (n : ℕ). v * 1 ≤ n) (sym (suc-mul N d)) (omega arith)) in
+      let k : T (le (round binary32 false v d) (W (suc N))) =
+      round-mono binary32 v d (suc N) 1 D (lit< tt) (subst (λ (n : ℕ). v * 1 ≤ n) (sym (suc-mul N d)) (omega arith)) in
       held (round binary32 false v d) (round-fits binary32 false v d) (between (W N) (round binary32 false v d) (W (suc N)) low-pos high-pos u k) u k
 
 -- ---- whole numbers taken from whole numbers
@@ -100,7 +101,8 @@ module _ (m : ℕ) (e : ℤ) (q : ℕ) (is : toUnsigned 64 (fin false m e) ≡ q
 
   below-y : nearOf y ≡ W q → nearOf y ⊖ cond (lt y (nearOf y)) f1 f0 ≡ W q
   below-y h =
-      let under : lt y (W q) ≡ false = not-of-le (W q) y (is-true _ (le-of-values (W q) y q 1 (m * up e) (down e) (lit< tt) (down-pos e) (valued q (omega arith)) (refl, refl) (omega (arith, parts)))) in
+      let under : lt y (W q) ≡ false =
+      not-of-le (W q) y (is-true _ (le-of-values (W q) y q 1 (m * up e) (down e) (lit< tt) (down-pos e) (valued q (omega arith)) (refl, refl) (omega (arith, parts)))) in
       rw (h, under) (taken q 0 f0 (omega arith) (omega arith) (unfold ofBits in (refl, refl)) ∙ ap W (omega arith))
 
   above-y : nearOf y ≡ W (suc q) → nearOf y ⊖ cond (lt y (nearOf y)) f1 f0 ≡ W q
@@ -120,8 +122,10 @@ module _ (m : ℕ) (e : ℤ) (q : ℕ) (is : toUnsigned 64 (fin false m e) ≡ q
       let a = m * up e in
       let r = fit (2 ^ 23 * d) (q * d) (a % d) d a ((2 ^ 23 + q) * d) (add-mul (2 ^ 23) q d) parts (mod-lt a (down-pos e)) in
       ⊎-elim
-      (λ g. below-y (ap (λ (x : Float). x ⊖ f2^23) (summed ∙ g) ∙ taken (2 ^ 23 + q) (2 ^ 23) f2^23 (omega arith) (omega arith) (unfold ofBits in (refl, refl)) ∙ ap W (omega arith)))
-      (λ g. above-y (ap (λ (x : Float). x ⊖ f2^23) (summed ∙ g) ∙ taken (suc (2 ^ 23 + q)) (2 ^ 23) f2^23 (omega arith) (omega arith) (unfold ofBits in (refl, refl)) ∙ ap W (omega arith)))
+      (λ g. below-y (ap (λ (x : Float). x ⊖ f2^23) (summed ∙ g)
+      ∙ taken (2 ^ 23 + q) (2 ^ 23) f2^23 (omega arith) (omega arith) (unfold ofBits in (refl, refl)) ∙ ap W (omega arith)))
+      (λ g. above-y (ap (λ (x : Float). x ⊖ f2^23) (summed ∙ g)
+      ∙ taken (suc (2 ^ 23 + q)) (2 ^ 23) f2^23 (omega arith) (omega arith) (unfold ofBits in (refl, refl)) ∙ ap W (omega arith)))
       (near (2 ^ 23 + q) (omega arith) (omega arith) (a + 2 ^ 23 * d) d (down-pos e) (r .0) (r .1))
     where
       fit : (P Q r d a n : ℕ) → n ≡ P + Q → Q + r ≡ a → r < d → (n ≤ a + P) × (a + P ≤ n + d)
