@@ -252,7 +252,7 @@ fn compare_numbers(pairs: &Pairs, seed: u64, lists: u64) -> bool {
     same &= all_floats("clamp", |x| bits(inner_clamp(x)), |x| bits(x.clamp(0.0, 1.0)));
     same &= all_floats("entry_clamp", |x| bits(inner_entry_clamp(x)), |x| bits(Block::from_raw([x; 16]).b[0].x));
     same &= all_floats("byte_of", |x| inner_byte_of(x), |x| x as u8);
-    same &= all_floats("byte_up_to_7", |x| inner_byte_up_to_7(x), |x| (x as u8).min(7) as u32);
+    same &= all_floats("byte_up_to_7", |x| inner_byte_up_to_7(quiet(x)), |x| (x as u8).min(7) as u32);
 
     same &= pairs.compare("min", |a, b| bits_but_open(a, b, inner_min(a, b)), |a, b| bits_but_open(a, b, a.min(b)));
     same &= pairs.compare("max", |a, b| bits_but_open(a, b, inner_max(a, b)), |a, b| bits_but_open(a, b, a.max(b)));
