@@ -15,7 +15,7 @@ abbrev refuses : Checked → Type 0
 refuses Passed = ⊥
 refuses (Refused q) = Unit {0}
 
-apart : {q : Refusal} → Refused q ≡ Passed → ⊥
+pub apart : {q : Refusal} → Refused q ≡ Passed → ⊥
 apart e = subst refuses e tt
 
 -- no check applies

@@ -27,7 +27,7 @@ use Rattle.bc4.specs.declared.Tiled.{Tiled}
 use Rattle.bc4.specs.declared.Tiled.the-variants.{Written, Refused as NotTiled}
 use Rattle.bc4.specs.Refusals.{lowest, encodeChecks, tileChecks}
 use Rattle.bc4.specs.Calls.{encodedOn, encodeAnswer, samplesAfter, tiledOn, outAfter}
-use Rattle.bc4.proofs.Lowest.{Clear, lowest-clear, same-of}
+use Rattle.bc4.proofs.Lowest.{apart, Clear, lowest-clear, same-of}
 use Rattle.demands.specs.Demand1.{EncodeRefuses, ofTiled}
 use Rattle.demands.specs.Demand2.{Demand2}
 use Rattle.demands.proofs.Conditions.{nan-free}
@@ -36,10 +36,6 @@ use Rattle.demands.proofs.Demand1.{encode-exactly}
 abbrev countOf : Tiled → ℕ
 countOf (Written n) = n
 countOf (NotTiled q) = 0
-
-abbrev refuses : Checked → Type 0
-refuses Passed = ⊥
-refuses (Refused q) = Unit {0}
 
 answered : (s : List Float) (o : Options) → lowest (encodeChecks s) ≡ Passed → encodeAnswer s o ≡ Block (compressed s o)
 unfolding encodedOn
@@ -72,7 +68,7 @@ module _ (s : List Float) (width height : ℕ) (o : Options) (out : List ℕ) (p
 count-is : (c : Checked) (width height n : ℕ) → tiledOn c width height ≡ Written n → (c ≡ Passed) × (n ≡ encodedLength width height)
 unfolding tiledOn
 count-is Passed width height n e = (refl, sym (ap countOf e))
-count-is (Refused q) width height n e = absurd (subst refuses (ap ofTiled e) tt)
+count-is (Refused q) width height n e = absurd (apart (ap ofTiled e))
 
 pub demand-2 : Demand2
 unfolding samplesAfter outAfter

@@ -10,6 +10,7 @@ use Rattle.bc4.specs.declared.refusal.Refusal.{Refusal}
 use Rattle.bc4.specs.declared.refusal.Checked.{Checked}
 use Rattle.bc4.specs.declared.refusal.Checked.the-variants.{Passed, Refused}
 use Rattle.bc4.specs.Refusals.{numberOf, Check, lowest}
+use Rattle.bc4.proofs.Lowest.{apart}
 use Rattle.demands.specs.Demand1.{Iff, Exactly}
 
 -- a check of the list is for q, and applies
@@ -34,13 +35,6 @@ above n (c ∷ cs) q a (inr h) = above n cs q (a .1) h
 abbrev refusalOr : Refusal → Checked → Refusal
 refusalOr q Passed = q
 refusalOr q (Refused p) = p
-
-abbrev refuses : Checked → Type 0
-refuses Passed = ⊥
-refuses (Refused q) = Unit {0}
-
-apart : {q : Refusal} → Refused q ≡ Passed → ⊥
-apart e = subst refuses e tt
 
 abbrev First : List Check → Refusal → Type 0
 First cs q = Has cs q × ((p : Refusal) → Has cs p → numberOf p < numberOf q → ⊥)
