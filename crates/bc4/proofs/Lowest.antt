@@ -1,5 +1,5 @@
 -- Laws of the lowest refusal that applies. Assumes nothing.
-use mathlib.Core.Path.{_≡_, refl, sym, subst}
+use mathlib.Core.Path.{_≡_, refl, sym, ap, subst}
 use mathlib.Core.Bool.{Bool, true, false, not, cond}
 use mathlib.Core.List.{List, [], _∷_, _++_}
 use Prim.Native.Nat.{ℕ, _<_}
@@ -49,7 +49,7 @@ number-small WordMalformed = lit< tt
 
 -- A malformed word is one check more, after all others.
 pub malformed-last : (cs : List Check) → lowest (cs ++ when WordMalformed true ∷ []) ≡ Refused (orMalformed (lowest cs))
-unfolding lowest orMalformed
+unfolding lowest
 malformed-last [] = refl
 malformed-last (c ∷ cs) = go (c .applies) (malformed-last cs)
   where
@@ -57,3 +57,8 @@ malformed-last (c ∷ cs) = go (c .applies) (malformed-last cs)
         → cond t (Refused (c .refusal)) (lowest (cs ++ when WordMalformed true ∷ [])) ≡ Refused (orMalformed (cond t (Refused (c .refusal)) (lowest cs)))
     go true rest = refl
     go false rest = rest
+
+pub formed-last : (cs : List Check) → lowest (cs ++ when WordMalformed false ∷ []) ≡ lowest cs
+unfolding lowest
+formed-last [] = refl
+formed-last (c ∷ cs) = ap (cond (c .applies) (Refused (c .refusal))) (formed-last cs)

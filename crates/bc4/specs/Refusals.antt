@@ -86,7 +86,7 @@ abbrev pub viewChecks : ℕ → ℕ → ℕ → ℕ → ℕ → List Check
 viewChecks long width height column row =
     sizeCheck width height ∷ lengthCheck long (encodedLength width height) ∷ placeCheck width height column row ∷ []
 
--- of a record of the program whose word is malformed: 8 comes after what the block call refuses
-unfoldable pub orMalformed : Checked → Refusal
+-- of a call whose options word is malformed: 8 comes after what the call refuses for another reason
+abbrev pub orMalformed : Checked → Refusal
 orMalformed Passed = WordMalformed
 orMalformed (Refused q) = q

@@ -7,6 +7,7 @@ ghost use Rattle.bc4.specs.Refusals.{lowest, decodeChecks, viewChecks};
 ghost use Rattle.bc4.specs.Calls.{encodeAnswer, samplesAfter, errorAnswer, betterOf, resendAnswer, tileAnswer, outAfter, viewOf};
 
 pub mod refusal;
+pub mod word;
 
 use refine::options::Options;
 use refusal::Checked;

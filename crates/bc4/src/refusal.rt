@@ -145,11 +145,10 @@ pub fn view(tile: &[u8], width: usize, height: usize, column: usize, row: usize)
     Checked::Passed
 }
 
-// Of a record of the program whose word is malformed: what the block call refuses comes first.
-pub fn malformed(samples: &[f32]) -> Refusal
-    ensures { λ r. ⌜ r ≡ orMalformed (lowest (encodeChecks (now (samples .entry)))) ⌝ }
+// Of a call whose options word is malformed: what the call refuses for another reason comes first.
+pub fn or_malformed(checked: Checked) -> Refusal
+    ensures { λ r. ⌜ r ≡ orMalformed checked ⌝ }
 {
-    let checked = encode(samples);
     match checked {
         Checked::Refused(q) => q,
         Checked::Passed => Refusal::WordMalformed,

@@ -5,22 +5,15 @@ use mathlib.Core.Bool.{cond}
 use Prim.Native.Nat.{ℕ, zero, suc, _*_, _/_, _%_, _≤_}
 use lib.Dec.{eqb}
 use lib.ListN.{length, take, drop}
-use lib.Ieee.{Float}
 use Rattle.bc4.specs.declared.Encoded.{Encoded}
 use Rattle.bc4.specs.declared.Encoded.the-variants.{Block, Refused}
-use Rattle.bc4.specs.Refusals.{numberOf, lowest, encodeChecks, orMalformed}
-use Rattle.bc4.specs.Calls.{encodeAnswer}
-use Rattle.lines.specs.declared.input.Word.{Word}
-use Rattle.lines.specs.declared.input.Word.the-variants.{Formed, Malformed}
-use Rattle.lines.specs.Input.{wordOf, samplesOf}
+use Rattle.bc4.specs.Refusals.{numberOf}
+use Rattle.bc4.specs.Word.{encodeByWord}
+use Rattle.lines.specs.Input.{wordIn, samplesOf}
 use Rattle.lines.specs.Output.{hexLine, refusedLine, shortLine}
 
-unfoldable pub byWord : List Float → Word → Encoded
-byWord samples (Formed o) = encodeAnswer samples o
-byWord samples Malformed = Refused (orMalformed (lowest (encodeChecks samples)))
-
 abbrev pub answerOf : List ℕ → Encoded
-answerOf bytes = byWord (samplesOf bytes) (wordOf bytes)
+answerOf bytes = encodeByWord (samplesOf bytes) (wordIn bytes)
 
 unfoldable pub lineOf : Encoded → List ℕ
 lineOf (Block b) = hexLine b

@@ -3,53 +3,15 @@ ghost use mathlib.Core.Path.{_≡_};
 ghost use Prim.Native.Nat.{_+_, _<_, _≤_};
 ghost use lib.ListN.{length};
 ghost use lib.Ieee.{binary32, ofBits};
-ghost use Rattle.lines.specs.Input.{optionsOf, wordOf, fourBytes, patternAt, samplesOf};
-use refine::options::Options;
-use refine::options::Quantization;
+ghost use Rattle.lines.specs.Input.{wordIn, fourBytes, patternAt, samplesOf};
+use bc4::word::Word;
 
-// The first four bytes of a record.
-pub enum Word {
-    Formed(Options),
-    Malformed,
-}
-
-fn options(flags: u8, limit: u8, quality: Quantization) -> Options
-    ensures { λ r. ⌜ r ≡ optionsOf flags limit quality ⌝ }
-{
-    Options {
-        dither: flags % 2 == 1,
-        snorm: flags / 2 % 2 == 1,
-        brute_force: flags / 4 % 2 == 1,
-        use_inter4: flags / 8 % 2 == 1,
-        use_inter4_heuristic: flags / 16 % 2 == 1,
-        quantization: quality,
-        fast_iter: flags / 32 % 2 == 1,
-        max_refine_iter: limit,
-        size_variations: flags / 64 % 2 == 1,
-        iter_initial_inter4: flags / 128 % 2 == 1,
-    }
-}
-
+// The first four bytes.
 pub fn read_word(bytes: &[u8]) -> Word
     requires { ⌜ length (now bytes) ≡ 68 ⌝ }
-    ensures { λ r. ⌜ r ≡ wordOf (now (bytes .entry)) ⌝ }
+    ensures { λ r. ⌜ r ≡ wordIn (now (bytes .entry)) ⌝ }
 {
-    let flags = bytes[0];
-    let limit = bytes[1];
-    let quality = bytes[2];
-    if bytes[3] != 0 {
-        return Word::Malformed;
-    }
-    if quality == 0 {
-        return Word::Formed(options(flags, limit, Quantization::Round));
-    }
-    if quality == 1 {
-        return Word::Formed(options(flags, limit, Quantization::MediumQuality));
-    }
-    if quality == 2 {
-        return Word::Formed(options(flags, limit, Quantization::HighQuality));
-    }
-    Word::Malformed
+    bc4::word::read(bytes[0], bytes[1], bytes[2], bytes[3])
 }
 
 fn wide(x: u8) -> u32

@@ -10,20 +10,14 @@ pub mod input;
 mod output;
 
 use bc4::Encoded;
-use input::Word;
 use output::Line;
 
-// Whatever the word is, a sample that is NaN comes before it.
 pub fn answer_to(bytes: &[u8]) -> Encoded
     requires { ⌜ length (now bytes) ≡ 68 ⌝ }
     ensures { λ r. ⌜ r ≡ answerOf (now (bytes .entry)) ⌝ }
 {
     let samples = input::samples(bytes);
-    let word = input::read_word(bytes);
-    match word {
-        Word::Malformed => Encoded::Refused(bc4::refusal::malformed(&samples)),
-        Word::Formed(o) => bc4::encode_block(&samples, o),
-    }
+    bc4::word::encode_block(&samples, input::read_word(bytes))
 }
 
 fn line(answer: Encoded) -> Line

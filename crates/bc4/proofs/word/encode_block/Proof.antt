@@ -1,0 +1,31 @@
+-- `word::encode_block` meets its contract. Assumes nothing.
+use Rattle.bc4.specs.Refusals.{encodeChecks}
+use Rattle.bc4.specs.Calls.{encodedOn}
+use Rattle.bc4.proofs.Lowest.{malformed-last, formed-last}
+use borrow.Author.Needs.{needs}
+use Rattle.bc4.proofs.word.encode_block.Statement.{statement}
+use Rattle.bc4.proofs.word.encode_block.Tie as tie
+
+encode-requires : tie.Need-encode-requires
+encode-requires c κs = search needs
+
+or-malformed-requires : tie.Need-or-malformed-requires
+or-malformed-requires c κs = search needs
+
+returns : tie.Need-returns
+unfolding encodedOn
+returns c =
+    let a = c .before .before .before .before .args in
+    rw (c .before .before .if1 .taken, malformed-last (encodeChecks (a .samples .now)), c .or-malformed .ensures, c .before .encode .ensures)
+
+encode-block-requires : tie.Need-encode-block-requires
+encode-block-requires c κs = search needs
+
+returns-2 : tie.Need-returns-2
+unfolding encodedOn
+returns-2 c = let a = c .before .before .before .args in rw (c .before .if1 .left, formed-last (encodeChecks (a .samples .now))) (c .encode-block .ensures)
+
+pub encode-block-spec : {M : Type 1} → statement M
+encode-block-spec =
+    tie.close
+    (tie.spec encode-requires or-malformed-requires returns encode-block-requires returns-2)

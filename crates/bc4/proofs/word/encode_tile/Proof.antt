@@ -1,0 +1,44 @@
+-- `word::encode_tile` meets its contract. Assumes nothing.
+use mathlib.Core.Path.{refl}
+use lib.ListN.{length}
+use Rattle.bc4.specs.Refusals.{tileChecks}
+use Rattle.bc4.specs.Calls.{tiledOn, outAfter}
+use Rattle.bc4.proofs.Lowest.{malformed-last, formed-last}
+use borrow.Author.Needs.{needs}
+use Rattle.bc4.proofs.word.encode_tile.Statement.{statement}
+use Rattle.bc4.proofs.word.encode_tile.Tie as tie
+
+tile-requires : tie.Need-tile-requires
+tile-requires c κs = search needs
+
+or-malformed-requires : tie.Need-or-malformed-requires
+or-malformed-requires c κs = search needs
+
+returns : tie.Need-returns
+unfolding tiledOn outAfter
+returns c =
+    let a = c .before .before .before .before .before .args in
+    (rw (c .before .before .if1 .taken, malformed-last (tileChecks (a .samples .now) (a .width) (a .height) (length (a .out .now))), c .or-malformed .ensures, c .before .tile .ensures), refl)
+
+encode-tile-requires : tie.Need-encode-tile-requires
+encode-tile-requires c κs = search needs
+
+same-length : tie.Need-same-length
+same-length c = search needs
+
+returns-2 : tie.Need-returns-2
+unfolding tiledOn
+returns-2 c =
+    let a = c .before .before .before .before .before .before .before .args in
+    (rw (c .before .before .before .before .if1 .left, formed-last (tileChecks (a .samples .now) (a .width) (a .height) (length (a .out .now)))) (c .before .before .encode-tile .ensures .0), c .before .before .encode-tile .ensures .1)
+
+pub encode-tile-spec : {M : Type 1} → statement M
+encode-tile-spec =
+    tie.close
+    (tie.spec
+    tile-requires
+    or-malformed-requires
+    returns
+    encode-tile-requires
+    same-length
+    returns-2)

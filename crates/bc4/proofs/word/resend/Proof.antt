@@ -1,0 +1,32 @@
+-- `word::resend` meets its contract. Assumes nothing.
+use Rattle.bc4.specs.Refusals.{resendChecks}
+use Rattle.bc4.specs.Calls.{resentOn}
+use Rattle.bc4.proofs.Lowest.{malformed-last, formed-last}
+use borrow.Author.Needs.{needs}
+use Rattle.bc4.proofs.word.resend.Statement.{statement}
+use Rattle.bc4.proofs.word.resend.Tie as tie
+
+resend-requires : tie.Need-resend-requires
+resend-requires c κs = search needs
+
+or-malformed-requires : tie.Need-or-malformed-requires
+or-malformed-requires c κs = search needs
+
+returns : tie.Need-returns
+unfolding resentOn
+returns c =
+    let a = c .before .before .before .before .before .args in
+    rw (c .before .before .if1 .taken, malformed-last (resendChecks (a .samples .now) (a .held .now) (a .w .options)), c .or-malformed .ensures, c .before .resend .ensures)
+
+resend-requires-2 : tie.Need-resend-requires-2
+resend-requires-2 c κs = search needs
+
+returns-2 : tie.Need-returns-2
+unfolding resentOn
+returns-2 c =
+    let a = c .before .before .before .before .args in
+    rw (c .before .if1 .left, formed-last (resendChecks (a .samples .now) (a .held .now) (a .w .options))) (c .resend2 .ensures)
+
+pub resend-spec : {M : Type 1} → statement M
+resend-spec =
+    tie.close (tie.spec resend-requires or-malformed-requires returns resend-requires-2 returns-2)

@@ -1,0 +1,60 @@
+-- The options as a word of four bytes. Document 01, "The program":
+--   byte 0  flags, bits 0 to 7: dither, snorm, brute_force, use_inter4, use_inter4_heuristic, fast_iter, size_variations, iter_initial_inter4
+--   byte 1  max_refine_iter
+--   byte 2  0 Round, 1 medium, 2 high
+--   byte 3  0
+-- Any other value of bytes 2 and 3 makes the word malformed: refusal 8, after all others.
+use mathlib.Core.Bool.{Bool, cond, not, _||_}
+use mathlib.Core.List.{List, [], _∷_, _++_}
+use Prim.Native.Nat.{ℕ, _/_, _%_, _^_}
+use lib.Dec.{eqb, ltb}
+use lib.Ieee.{Float}
+use Rattle.refine.specs.declared.options.Options.{Options}
+use Rattle.refine.specs.declared.options.Quantization.{Quantization}
+use Rattle.refine.specs.declared.options.Quantization.the-variants.{Round, MediumQuality, HighQuality}
+use Rattle.bc4.specs.declared.refusal.Refusal.the-variants.{WordMalformed}
+use Rattle.bc4.specs.declared.word.Word.{Word}
+use Rattle.bc4.specs.declared.Encoded.{Encoded}
+use Rattle.bc4.specs.declared.Resent.{Resent}
+use Rattle.bc4.specs.declared.Tiled.{Tiled}
+use Rattle.bc4.specs.Refusals.{Check, when, lowest, encodeChecks, resendChecks, tileChecks}
+use Rattle.bc4.specs.Calls.{encodedOn, resentOn, tiledOn}
+
+-- whether bit k of the flags is set
+abbrev pub flag : ℕ → ℕ → Bool
+flag flags k = eqb (flags / 2 ^ k % 2) 1
+
+unfoldable pub optionsOf : ℕ → ℕ → Quantization → Options
+optionsOf flags limit quality = record {
+  dither = flag flags 0;
+  snorm = flag flags 1;
+  «brute_force» = flag flags 2;
+  «use_inter4» = flag flags 3;
+  «use_inter4_heuristic» = flag flags 4;
+  quantization = quality;
+  «fast_iter» = flag flags 5;
+  «max_refine_iter» = limit;
+  «size_variations» = flag flags 6;
+  «iter_initial_inter4» = flag flags 7;
+}
+
+abbrev pub qualityOf : ℕ → Quantization
+qualityOf byte = cond (eqb byte 0) Round (cond (eqb byte 1) MediumQuality HighQuality)
+
+unfoldable pub wordOf : ℕ → ℕ → ℕ → ℕ → Word
+wordOf flags limit quality last = record { options = optionsOf flags limit (qualityOf quality); malformed = ltb 2 quality || not (eqb last 0) }
+
+-- ---- the calls that take a word
+-- a call's checks, and the word's after them
+abbrev pub andWord : List Check → Word → List Check
+andWord checks w = checks ++ when WordMalformed (w .malformed) ∷ []
+
+abbrev pub encodeByWord : List Float → Word → Encoded
+encodeByWord samples w = encodedOn (lowest (andWord (encodeChecks samples) w)) samples (w .options)
+
+abbrev pub resendByWord : List Float → List ℕ → Word → Resent
+resendByWord samples held w = resentOn (lowest (andWord (resendChecks samples held (w .options)) w)) samples held (w .options)
+
+-- `room` is the length of the output
+abbrev pub tileByWord : List Float → ℕ → ℕ → ℕ → Word → Tiled
+tileByWord samples width height room w = tiledOn (lowest (andWord (tileChecks samples width height room) w)) width height
