@@ -1,0 +1,61 @@
+-- `exports::bc4_block_view` meets its contract. Assumes nothing.
+use mathlib.Core.Path.{refl, sym, _∙_}
+use native.Mathlib.Omega.{arith}
+use Rattle.bc4.proofs.Views.{view-room}
+use borrow.Author.Needs.{needs}
+use Rattle.exports.proofs.bc4_block_view.Statement.{statement}
+use Rattle.exports.proofs.bc4_block_view.Tie as tie
+
+view-refusal-requires : tie.Need-view-refusal-requires
+view-refusal-requires c κs = search needs
+
+enum-known-checked : tie.Need-enum-known-checked
+enum-known-checked c = search needs
+
+number-requires : tie.Need-number-requires
+number-requires c κs = search needs
+
+wide-requires : tie.Need-wide-requires
+wide-requires c κs = search needs
+
+enum-told : tie.Need-enum-told
+enum-told c = search needs
+
+mul-offset : tie.Need-mul-offset
+mul-offset c =
+    let a = c .before .before .before .before .args in
+    let room = view-room (a .tile .now) (a .width) (a .height) (a .column) (a .row) (sym (c .before .before .view-refusal .ensures) ∙ c .enum-told .given .1) in
+    search needs
+
+add-offset : tie.Need-add-offset
+add-offset c =
+    let a = c .before .before .before .before .args in
+    let room = view-room (a .tile .now) (a .width) (a .height) (a .column) (a .row) (sym (c .before .before .view-refusal .ensures) ∙ c .enum-told .given .1) in
+    search needs
+
+mul-offset-2 : tie.Need-mul-offset-2
+mul-offset-2 c =
+    let a = c .before .before .before .before .args in
+    let room = view-room (a .tile .now) (a .width) (a .height) (a .column) (a .row) (sym (c .before .before .view-refusal .ensures) ∙ c .enum-told .given .1) in
+    search needs
+
+returns : tie.Need-returns
+returns c = rw (← c .before .before .before .before .before .view-refusal .ensures, c .before .before .before .checked .given .1) (c .wide .ensures ∙ c .before .number .ensures, refl)
+
+returns-2 : tie.Need-returns-2
+returns-2 c = rw (← c .before .before .view-refusal .ensures, c .enum-told .given .1) (refl, refl)
+
+pub bc4-block-view-spec : {M : Type 1} → statement M
+bc4-block-view-spec =
+    tie.close
+    (tie.spec
+    view-refusal-requires
+    enum-known-checked
+    number-requires
+    wide-requires
+    enum-told
+    mul-offset
+    add-offset
+    mul-offset-2
+    returns
+    returns-2)

@@ -1,0 +1,104 @@
+-- How the answers of `bc4` cross to C: a refusal's number, with 0 for none, and what each lent place holds after the call. A refused call leaves
+-- every place as it was, but for the index of a sample that is NaN, which refusal 7 alone writes.
+use mathlib.Core.Bool.{cond}
+use mathlib.Core.List.{List}
+use Prim.Native.Nat.{ℕ, _/_, _%_, _^_}
+use lib.Ieee.{Float}
+use Rattle.index_list.specs.Layout.{bytesOf}
+use Rattle.tile.specs.Place.{blockAt}
+use Rattle.bc4.specs.declared.refusal.Refusal.{Refusal}
+use Rattle.bc4.specs.declared.refusal.Refusal.the-variants.{Size, SampleCount, EncodedLength, OutputLength, DitheredResend, NoSuchBlock, SampleIsNan, WordMalformed}
+use Rattle.bc4.specs.declared.refusal.Checked.{Checked}
+use Rattle.bc4.specs.declared.refusal.Checked.the-variants.{Passed, Refused}
+use Rattle.bc4.specs.declared.word.Word.{Word}
+use Rattle.bc4.specs.declared.Encoded.{Encoded}
+use Rattle.bc4.specs.declared.Encoded.the-variants.{Block, Refused as NotEncoded}
+use Rattle.bc4.specs.declared.Scored.{Scored}
+use Rattle.bc4.specs.declared.Scored.the-variants.{Error, Refused as NotScored}
+use Rattle.bc4.specs.declared.Held.{Held}
+use Rattle.bc4.specs.declared.Resent.{Resent}
+use Rattle.bc4.specs.declared.Resent.the-variants.{Block as Answered, Refused as NotResent}
+use Rattle.bc4.specs.declared.Tiled.{Tiled}
+use Rattle.bc4.specs.declared.Tiled.the-variants.{Written, Refused as NotTiled}
+use Rattle.bc4.specs.Refusals.{numberOf}
+use Rattle.bc4.specs.Word.{wordOf, encodeByWord, resendByWord, tileByWord}
+
+-- the options word, byte 0 lowest
+abbrev pub wordIn : ℕ → Word
+wordIn options = wordOf (options % 2 ^ 8) (options / 2 ^ 8 % 2 ^ 8) (options / 2 ^ 16 % 2 ^ 8) (options / 2 ^ 24)
+
+-- ---- the answers for such a word
+abbrev pub encodeFor : List Float → ℕ → Encoded
+encodeFor samples options = encodeByWord samples (wordIn options)
+
+abbrev pub resendFor : List Float → List ℕ → ℕ → Resent
+resendFor samples held options = resendByWord samples held (wordIn options)
+
+-- `room` is the length of the output
+abbrev pub tileFor : List Float → ℕ → ℕ → ℕ → ℕ → Tiled
+tileFor samples width height room options = tileByWord samples width height room (wordIn options)
+
+-- ---- a refusal, or none
+abbrev pub numberIn : Checked → ℕ
+numberIn Passed = 0
+numberIn (Refused q) = numberOf q
+
+abbrev pub nanOn : Refusal → ℕ → ℕ
+nanOn (SampleIsNan i) before = i
+nanOn Size before = before
+nanOn SampleCount before = before
+nanOn EncodedLength before = before
+nanOn OutputLength before = before
+nanOn DitheredResend before = before
+nanOn NoSuchBlock before = before
+nanOn WordMalformed before = before
+
+abbrev pub nanAfter : Checked → ℕ → ℕ
+nanAfter Passed before = before
+nanAfter (Refused q) before = nanOn q before
+
+-- ---- encode block
+abbrev pub ofEncoded : Encoded → Checked
+ofEncoded (Block b) = Passed
+ofEncoded (NotEncoded q) = Refused q
+
+abbrev pub blockAfter : Encoded → List ℕ → List ℕ
+blockAfter (Block b) before = bytesOf b
+blockAfter (NotEncoded q) before = before
+
+-- ---- block error
+abbrev pub ofScored : Scored → Checked
+ofScored (Error e) = Passed
+ofScored (NotScored q) = Refused q
+
+abbrev pub errorAfter : Scored → Float → Float
+errorAfter (Error e) before = e
+errorAfter (NotScored q) before = before
+
+-- ---- resend
+abbrev pub ofResent : Resent → Checked
+ofResent (Answered h) = Passed
+ofResent (NotResent q) = Refused q
+
+abbrev pub heldAfter : Resent → List ℕ → List ℕ
+heldAfter (Answered h) before = bytesOf (h .block)
+heldAfter (NotResent q) before = before
+
+-- 1 where the bytes are the fresh ones, else 0
+abbrev pub freshAfter : Resent → ℕ → ℕ
+freshAfter (Answered h) before = cond (h .fresh) 1 0
+freshAfter (NotResent q) before = before
+
+-- ---- encode tile
+abbrev pub ofTiled : Tiled → Checked
+ofTiled (Written n) = Passed
+ofTiled (NotTiled q) = Refused q
+
+abbrev pub writtenAfter : Tiled → ℕ → ℕ
+writtenAfter (Written n) before = n
+writtenAfter (NotTiled q) before = before
+
+-- ---- block view
+abbrev pub offsetAfter : Checked → ℕ → ℕ → ℕ → ℕ → ℕ
+offsetAfter Passed width column row before = blockAt width column row
+offsetAfter (Refused q) width column row before = before
