@@ -17,6 +17,12 @@ use Rattle.bc4.proofs.view_refusal.Kinds as view-refusal-kinds
 use Rattle.bc4.proofs.view_refusal.Reads as view-refusal
 use Rattle.bc4.proofs.bytes.Kinds as bytes-kinds
 use Rattle.bc4.proofs.bytes.Reads as bytes
+use Rattle.bc4.proofs.word.encode_block.Kinds as word-encode-block-kinds
+use Rattle.bc4.proofs.word.encode_block.Reads as word-encode-block
+use Rattle.bc4.proofs.word.resend.Kinds as word-resend-kinds
+use Rattle.bc4.proofs.word.resend.Reads as word-resend
+use Rattle.bc4.proofs.word.encode_tile.Kinds as word-encode-tile-kinds
+use Rattle.bc4.proofs.word.encode_tile.Reads as word-encode-tile
 use Rattle.bc4.proofs.decode_block.Kinds as decode-block-kinds
 use Rattle.bc4.proofs.decode_block.Reads as decode-block
 use Rattle.bc4.proofs.encode_tile.Kinds as encode-tile-kinds
@@ -61,6 +67,20 @@ tile-determined κs a x y s t p q = p .0 ∙ sym (q .0)
 pub tile-bytes-determined : One-end 2 encode-tile-kinds.ps encode-tile-kinds.r encode-tile.Post (λ κs s. s .1 .1 .1 .1 .0 .now)
 tile-bytes-determined κs a x y s t p q =
     p .1 ∙ ap (λ z. outAfter z (a .0 .now) (a .1 .0) (a .1 .1 .0) (a .1 .1 .1 .0) (a .1 .1 .1 .1 .0 .now)) (p .0 ∙ sym (q .0)) ∙ sym (q .1)
+
+-- the same with a word for the options
+pub word-encode-determined : One-answer 1 word-encode-block-kinds.ps word-encode-block-kinds.r word-encode-block.Post
+word-encode-determined κs a x y s t p q = p ∙ sym q
+
+pub word-resend-determined : One-answer 2 word-resend-kinds.ps word-resend-kinds.r word-resend.Post
+word-resend-determined κs a x y s t p q = p ∙ sym q
+
+pub word-tile-determined : One-answer 2 word-encode-tile-kinds.ps word-encode-tile-kinds.r word-encode-tile.Post
+word-tile-determined κs a x y s t p q = p .0 ∙ sym (q .0)
+
+pub word-tile-bytes-determined : One-end 2 word-encode-tile-kinds.ps word-encode-tile-kinds.r word-encode-tile.Post (λ κs s. s .1 .1 .1 .1 .0 .now)
+word-tile-bytes-determined κs a x y s t p q =
+    p .1 ∙ ap (λ z. outAfter z (a .0 .now) (a .1 .0) (a .1 .1 .0) (a .1 .1 .1 .0 .options) (a .1 .1 .1 .1 .0 .now)) (p .0 ∙ sym (q .0)) ∙ sym (q .1)
 
 -- block view: the bytes of the part. Which part it is, where two blocks of a tile are alike, the contract of a slice does not say.
 pub view-determined : (κs : Lfts 1) (a : Dens κs block-view-kinds.ps) (x y : resT block-view-kinds.r κs .Denot) (s t : AtExit (endedOf 1 block-view-kinds.ps block-view-kinds.r) κs)

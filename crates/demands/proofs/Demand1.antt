@@ -1,19 +1,18 @@
 -- Demand 1. Assumes nothing.
 use mathlib.Core.Path.{_≡_, refl, sym, subst}
-use mathlib.Core.Bool.{Bool, true}
-use mathlib.Core.List.{List, [], _∷_, _++_}
+use mathlib.Core.Bool.{Bool}
+use mathlib.Core.List.{List}
 use Prim.Native.Nat.{ℕ}
 use lib.Dec.{lit<}
 use lib.ListN.{length}
 use lib.Ieee.{Float}
 use Rattle.refine.specs.declared.options.Options.{Options}
 use Rattle.bc4.specs.declared.refusal.Refusal.{Refusal}
-use Rattle.bc4.specs.declared.refusal.Refusal.the-variants.{WordMalformed}
 use Rattle.bc4.specs.declared.refusal.Checked.{Checked}
 use Rattle.bc4.specs.declared.refusal.Checked.the-variants.{Passed, Refused}
-use Rattle.bc4.specs.Refusals.{Check, when, lowest, encodeChecks, decodeChecks, errorChecks, resendChecks, tileChecks, viewChecks}
+use Rattle.bc4.specs.Refusals.{lowest, encodeChecks, decodeChecks, errorChecks, resendChecks, tileChecks, viewChecks}
+use Rattle.bc4.specs.Word.{andWord}
 use Rattle.bc4.specs.Calls.{encodedOn, samplesAfter, scoredOn, resentOn, tiledOn, outAfter, viewOn}
-use Rattle.bc4.proofs.Lowest.{malformed-last}
 use Rattle.demands.specs.Demand1.{Exactly, Demand1, EncodeRefuses, DecodeRefuses, ErrorRefuses, ResendRefuses, TileRefuses, ViewRefuses, RecordRefuses, ofEncoded, ofScored, ofResent, ofTiled}
 use Rattle.demands.proofs.Refusing.{exactly}
 use Rattle.demands.proofs.Conditions.{next-iff, last-iff, when-iff, iff-refl, unequal-iff, below-iff, size-iff, place-iff, nan-iff}
@@ -65,10 +64,10 @@ demand-1 = record {
   view = λ tile width height column row.
       exactly (viewChecks (length tile) width height column row) (ViewRefuses tile width height column row) ((lit< tt, (lit< tt, tt)), ((lit< tt, tt), (tt, tt)))
       (λ q. next-iff (when-iff (size-iff width height)) (next-iff (when-iff (unequal-iff _ _)) (last-iff (when-iff (place-iff width height column row)))));
-  malformed = λ s.
-      same-answer (sym (malformed-last (encodeChecks s)))
-      (exactly (encodeChecks s ++ when WordMalformed true ∷ []) (RecordRefuses s) ((lit< tt, (lit< tt, tt)), ((lit< tt, tt), (tt, tt)))
-      (λ q. next-iff (when-iff (unequal-iff _ _)) (next-iff (nan-iff q s) (last-iff (when-iff (λ e. tt, λ e. refl))))));
+  record-of = λ s w.
+      same-answer (encoded-refusal (lowest (andWord (encodeChecks s) w)) s (w .options))
+      (exactly (andWord (encodeChecks s) w) (RecordRefuses s w) ((lit< tt, (lit< tt, tt)), ((lit< tt, tt), (tt, tt)))
+      (λ q. next-iff (when-iff (unequal-iff _ _)) (next-iff (nan-iff q s) (last-iff (when-iff iff-refl)))));
   decode-leaves = λ q snorm encoded before. refl;
   tile-leaves = λ q samples width height o before. refl;
   view-empty = λ q tile width height column row e. rw e;

@@ -22,7 +22,9 @@ use Rattle.bc4.specs.declared.Resent.{Resent}
 use Rattle.bc4.specs.declared.Resent.the-variants.{Block as Answered, Refused as NotResent}
 use Rattle.bc4.specs.declared.Tiled.{Tiled}
 use Rattle.bc4.specs.declared.Tiled.the-variants.{Written, Refused as NotTiled}
-use Rattle.bc4.specs.Refusals.{numberOf, lowest, orMalformed, encodeChecks, decodeChecks, viewChecks}
+use Rattle.bc4.specs.Refusals.{numberOf, lowest, decodeChecks, viewChecks}
+use Rattle.bc4.specs.declared.word.Word.{Word}
+use Rattle.bc4.specs.Word.{encodeByWord}
 use Rattle.bc4.specs.Calls.{encodeAnswer, samplesAfter, errorAnswer, resendAnswer, tileAnswer, outAfter, viewOf}
 
 -- ---- the table's conditions
@@ -85,9 +87,9 @@ ViewRefuses tile width height column row q =
     ⊎ WhenUnequal q EncodedLength (length tile) (width * height / 2)
     ⊎ When q NoSuchBlock (Missing width height column row)
 
--- of a record whose word is malformed: 8, after 2 and 7
-abbrev pub RecordRefuses : List Float → Refusal → Type 0
-RecordRefuses samples q = WhenUnequal q SampleCount (length samples) 16 ⊎ WhenNan q samples ⊎ When q WordMalformed (Unit {0})
+-- of the program's record: 2, 7, 8
+abbrev pub RecordRefuses : List Float → Word → Refusal → Type 0
+RecordRefuses samples w q = WhenUnequal q SampleCount (length samples) 16 ⊎ WhenNan q samples ⊎ When q WordMalformed (w .malformed ≡ true)
 
 -- ---- the answers' refusals
 abbrev pub ofEncoded : Encoded → Checked
@@ -124,7 +126,7 @@ pub record Demand1 : Type 0 where
       → Exactly (ofTiled (tileAnswer samples width height (length out))) (TileRefuses samples width height out)
   pub view : (tile : List ℕ) (width height column row : ℕ)
       → Exactly (lowest (viewChecks (length tile) width height column row)) (ViewRefuses tile width height column row)
-  pub malformed : (samples : List Float) → Exactly (Refused (orMalformed (lowest (encodeChecks samples)))) (RecordRefuses samples)
+  pub record-of : (samples : List Float) (w : Word) → Exactly (ofEncoded (encodeByWord samples w)) (RecordRefuses samples w)
   -- a refused call leaves lent memory as it was, and a refused view is empty
   pub decode-leaves : (q : Refusal) (snorm : Bool) (encoded : List ℕ) (before : List Float) → samplesAfter (Refused q) snorm encoded before ≡ before
   pub tile-leaves : (q : Refusal) (samples : List Float) (width height : ℕ) (o : Options) (before : List ℕ)
