@@ -1,0 +1,84 @@
+/* BC4 blocks: sixteen samples in eight bytes. The calls of the static library `exports` (crates/exports), for C99 and C++ on x86-64.
+
+   A call answers 0, or the number of a refusal: of all that apply, the lowest. A refused call changes nothing that it was lent, but for
+   *nan_index on BC4_SAMPLE_IS_NAN. No call reads or writes outside what it is lent, allocates, keeps a pointer or has a state; each ends for
+   every input. All this is proved, as far as the caller keeps its part:
+   - No pointer is null. A pointer that comes with a length has so many elements behind it, any other one as many as its type says.
+   - What a call writes to overlaps nothing else that it is lent.
+   The library needs nothing but `memset`. */
+#ifndef BC4_H
+#define BC4_H
+
+#include <stdbool.h>
+#include <stddef.h>
+#include <stdint.h>
+
+/* Major, minor and patch number of this header, a byte each. */
+#define BC4_VERSION 0x010000u
+
+/* ---- refusals */
+#define BC4_OK 0u              /* none */
+#define BC4_SIZE 1u            /* width or height is 0, over 1,024 or no multiple of 4 */
+#define BC4_SAMPLE_COUNT 2u    /* the sample count is not 16, or not width * height */
+#define BC4_ENCODED_LENGTH 3u  /* the encoded length is not 8, or not width * height / 2 */
+#define BC4_OUTPUT_LENGTH 4u   /* the output is shorter than width * height / 2 */
+#define BC4_DITHERED_RESEND 5u /* a resend with BC4_DITHER */
+#define BC4_NO_SUCH_BLOCK 6u   /* the column is not below width / 4, or the row not below height / 4 */
+#define BC4_SAMPLE_IS_NAN 7u   /* a sample is NaN; *nan_index is the lowest such index */
+#define BC4_WORD_MALFORMED 8u  /* the options are no sum of the constants below */
+
+/* ---- options: any of the flags, one limit and one quality, or'ed. 0 has no flag, the limit 0 and BC4_ROUND. */
+#define BC4_DITHER 0x01u
+#define BC4_SNORM 0x02u
+#define BC4_BRUTE_FORCE 0x04u
+#define BC4_USE_INTER4 0x08u
+#define BC4_USE_INTER4_HEURISTIC 0x10u
+#define BC4_FAST_ITER 0x20u
+#define BC4_SIZE_VARIATIONS 0x40u
+#define BC4_ITER_INITIAL_INTER4 0x80u
+#define BC4_MAX_REFINE_ITER(n) ((uint32_t)(uint8_t)(n) << 8)
+#define BC4_ROUND 0x000000u
+#define BC4_MEDIUM_QUALITY 0x010000u
+#define BC4_HIGH_QUALITY 0x020000u
+
+#ifdef __cplusplus
+extern "C" {
+#endif
+
+/* BC4_VERSION of the library. Refuses nothing. */
+uint32_t bc4_version(void);
+
+/* Encodes sixteen samples, row by row, into block[0..7]. Samples are on the scale 0 to 1; below and above, infinity included, they are clamped.
+   Refuses BC4_SAMPLE_COUNT, BC4_SAMPLE_IS_NAN, BC4_WORD_MALFORMED. */
+uint32_t bc4_encode_block(const float *samples, size_t sample_count, uint32_t options, uint8_t *block, size_t *nan_index);
+
+/* Decodes eight bytes into samples[0..15], each in 0 to 1.
+   Refuses BC4_ENCODED_LENGTH. */
+uint32_t bc4_decode_block(const uint8_t *encoded, size_t encoded_length, bool snorm, float *samples);
+
+/* The f32 sum, in order, of the squared distances between sixteen samples, clamped, and what eight bytes decode to, into *error.
+   Refuses BC4_SAMPLE_COUNT, BC4_ENCODED_LENGTH, BC4_SAMPLE_IS_NAN. */
+uint32_t bc4_block_error(const float *samples, size_t sample_count, const uint8_t *encoded, size_t encoded_length, bool snorm, float *error,
+                         size_t *nan_index);
+
+/* Encodes sixteen samples afresh and writes into block[0..7] the bytes to hold from now on: the fresh ones, and *fresh is 1, where their block
+   error is strictly below that of the held ones; else the held ones, and *fresh is 0. `block` is not `held`.
+   Refuses BC4_SAMPLE_COUNT, BC4_ENCODED_LENGTH, BC4_DITHERED_RESEND, BC4_SAMPLE_IS_NAN, BC4_WORD_MALFORMED. */
+uint32_t bc4_resend(const float *samples, size_t sample_count, const uint8_t *held, size_t held_length, uint32_t options, uint8_t *block,
+                    uint8_t *fresh, size_t *nan_index);
+
+/* Encodes a tile of width * height samples, row by row, into the first width * height / 2 bytes of `out`, and that count into *written: its blocks,
+   row by row from the top left, each as bc4_encode_block gives it. Later bytes of `out` stay as they are.
+   Refuses BC4_SIZE, BC4_SAMPLE_COUNT, BC4_OUTPUT_LENGTH, BC4_SAMPLE_IS_NAN, BC4_WORD_MALFORMED. */
+uint32_t bc4_encode_tile(const float *samples, size_t sample_count, size_t width, size_t height, uint32_t options, uint8_t *out,
+                         size_t out_length, size_t *written, size_t *nan_index);
+
+/* Where in an encoded tile the block of a column and a row of blocks stands: its eight bytes are tile[*offset] to tile[*offset + 7].
+   Refuses BC4_SIZE, BC4_ENCODED_LENGTH, BC4_NO_SUCH_BLOCK. */
+uint32_t bc4_block_view(const uint8_t *tile, size_t tile_length, size_t width, size_t height, size_t column, size_t row, size_t *offset);
+
+#ifdef __cplusplus
+}
+#endif
+
+#endif

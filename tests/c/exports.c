@@ -1,0 +1,369 @@
+/* Calls every export with right and wrong arguments, and compares numbers, values and every byte that was lent. Standard input is
+   crates/replay/stdin: records and the Rust's blocks for them. Exits with 1 where anything differs. */
+#include "../../include/bc4.h"
+
+/* Of the C library, declared here: the kit has no headers of it. */
+int printf(const char *, ...);
+void *memcpy(void *, const void *, size_t);
+void *memset(void *, int, size_t);
+int memcmp(const void *, const void *, size_t);
+long read(int, void *, size_t);
+
+static long checks, differ;
+
+static void expect(bool holds, int line, const char *what) {
+  checks++;
+  if (!holds) {
+    differ++;
+    printf("tests/c/exports.c:%d: %s\n", line, what);
+  }
+}
+#define EXPECT(holds) expect((holds), __LINE__, #holds)
+
+/* ---- what a call is lent: a stretch of bytes with a fill on both sides, and what the stretch held before the call */
+#define SIDE 64
+#define MOST 16384
+typedef struct {
+  uint8_t bytes[SIDE + MOST + SIDE];
+  uint8_t before[MOST];
+  size_t length;
+} lent;
+
+static lent samples, encoded, block, out, fresh, written, nan_index, error, decoded, offset;
+static lent *const all[] = {&samples, &encoded, &block, &out, &fresh, &written, &nan_index, &error, &decoded, &offset};
+
+static void *at(lent *l) { return l->bytes + SIDE; }
+
+static void lend(lent *l, size_t length) {
+  memset(l->bytes, 0xa5, sizeof l->bytes);
+  memcpy(l->before, at(l), MOST);
+  l->length = length;
+}
+
+static void put(lent *l, const void *from, size_t length) {
+  memcpy(at(l), from, length);
+  memcpy(l->before, at(l), MOST);
+}
+
+static void lend_all(void) {
+  lend(&samples, 0);
+  lend(&encoded, 0);
+  lend(&block, 8);
+  lend(&out, 0);
+  lend(&fresh, 1);
+  lend(&written, sizeof(size_t));
+  lend(&nan_index, sizeof(size_t));
+  lend(&error, sizeof(float));
+  lend(&decoded, 16 * sizeof(float));
+  lend(&offset, sizeof(size_t));
+}
+
+/* What a call was to write is given back first, by `take`; then every byte of every stretch and of its sides is as before. */
+static void take(lent *l, void *to, size_t length) {
+  memcpy(to, at(l), length);
+  memcpy(at(l), l->before, length);
+}
+
+static bool untouched(void) {
+  for (size_t i = 0; i < sizeof all / sizeof *all; i++) {
+    const lent *l = all[i];
+    if (memcmp(l->bytes + SIDE, l->before, MOST) != 0) return false;
+    for (size_t k = 0; k < SIDE; k++)
+      if (l->bytes[k] != 0xa5 || l->bytes[SIDE + MOST + k] != 0xa5) return false;
+  }
+  return true;
+}
+
+static size_t taken_size(lent *l) {
+  size_t n;
+  take(l, &n, sizeof n);
+  return n;
+}
+
+/* ---- samples and blocks */
+static float nan_of(void) {
+  uint32_t bits = 0x7fc00000u;
+  float x;
+  memcpy(&x, &bits, sizeof x);
+  return x;
+}
+
+static void lend_samples(float x, size_t count) {
+  for (size_t i = 0; i < count; i++) memcpy(samples.bytes + SIDE + i * sizeof x, &x, sizeof x);
+  memcpy(samples.before, at(&samples), MOST);
+}
+
+static void set_sample(size_t i, float x) {
+  memcpy(samples.bytes + SIDE + i * sizeof x, &x, sizeof x);
+  memcpy(samples.before, at(&samples), MOST);
+}
+
+static const uint8_t zeros[8] = {0, 0, 0, 0, 0, 0, 0, 0};
+static const uint8_t ones[8] = {255, 0, 0, 0, 0, 0, 0, 0};
+static const uint8_t signed_zeros[8] = {0x81, 0x81, 0, 0, 0, 0, 0, 0};
+static const uint8_t searched_zeros[8] = {0x01, 0x00, 0x49, 0x92, 0x24, 0x49, 0x92, 0x24};
+static const uint8_t searched_ones[8] = {0x00, 0xfe, 255, 255, 255, 255, 255, 255};
+/* index 2 everywhere, four-value: one fifth */
+static const uint8_t fifths[8] = {0x00, 0xff, 0x92, 0x24, 0x49, 0x92, 0x24, 0x49};
+
+/* a quality byte over 2, and a last byte that is not 0 */
+static const uint32_t malformed[] = {0x030000u, 0xff0000u, 0x01000000u, 0x80020000u};
+
+/* ---- encode block */
+static uint32_t encode(size_t count, uint32_t options) { return bc4_encode_block(at(&samples), count, options, at(&block), at(&nan_index)); }
+
+static void encodes(float x, uint32_t options, const uint8_t *expected) {
+  uint8_t got[8];
+  lend_all();
+  lend_samples(x, 16);
+  EXPECT(encode(16, options) == BC4_OK);
+  take(&block, got, 8);
+  EXPECT(memcmp(got, expected, 8) == 0);
+  EXPECT(untouched());
+}
+
+static void encode_refuses(size_t count, uint32_t options, uint32_t number) {
+  EXPECT(encode(count, options) == number);
+  EXPECT(untouched());
+}
+
+static void encode_blocks(void) {
+  encodes(0.0f, 0, zeros);
+  encodes(-3.0f, 0, zeros);
+  encodes(1.0f, 0, ones);
+  encodes(1.0f / 0.0f, 0, ones);
+  encodes(0.0f, BC4_SNORM, signed_zeros);
+  encodes(0.0f, BC4_BRUTE_FORCE, searched_zeros);
+  encodes(1.0f, BC4_BRUTE_FORCE, searched_ones);
+  lend_all();
+  lend_samples(0.5f, 32);
+  encode_refuses(0, 0, BC4_SAMPLE_COUNT);
+  encode_refuses(15, 0, BC4_SAMPLE_COUNT);
+  encode_refuses(17, 0, BC4_SAMPLE_COUNT);
+  encode_refuses(32, malformed[0], BC4_SAMPLE_COUNT);
+  for (size_t k = 0; k < sizeof malformed / sizeof *malformed; k++) encode_refuses(16, malformed[k], BC4_WORD_MALFORMED);
+  set_sample(9, nan_of());
+  set_sample(12, nan_of());
+  encode_refuses(9, 0, BC4_SAMPLE_COUNT);
+  EXPECT(encode(16, 0) == BC4_SAMPLE_IS_NAN);
+  EXPECT(taken_size(&nan_index) == 9);
+  EXPECT(untouched());
+  EXPECT(encode(16, malformed[0]) == BC4_SAMPLE_IS_NAN);
+  EXPECT(taken_size(&nan_index) == 9);
+  EXPECT(untouched());
+}
+
+/* ---- decode block */
+static uint32_t decode(size_t length, bool snorm) { return bc4_decode_block(at(&encoded), length, snorm, at(&decoded)); }
+
+static void decodes(const uint8_t *bytes, bool snorm, float low, float high) {
+  float got[16];
+  lend_all();
+  put(&encoded, bytes, 8);
+  EXPECT(decode(8, snorm) == BC4_OK);
+  take(&decoded, got, sizeof got);
+  for (size_t i = 0; i < 16; i++) EXPECT(low <= got[i] && got[i] <= high);
+  EXPECT(untouched());
+}
+
+static void decode_blocks(void) {
+  decodes(zeros, false, 0.0f, 0.0f);
+  decodes(ones, false, 1.0f, 1.0f);
+  decodes(signed_zeros, true, 0.0f, 0.0f);
+  decodes(searched_zeros, false, 0.0f, 0.0f);
+  decodes(searched_ones, false, 1.0f, 1.0f);
+  decodes(fifths, false, 0.2f - 5e-7f, 0.2f + 5e-7f);
+  lend_all();
+  for (size_t length = 0; length < 20; length++) {
+    if (length == 8) continue;
+    EXPECT(decode(length, length % 2 == 1) == BC4_ENCODED_LENGTH);
+    EXPECT(untouched());
+  }
+}
+
+/* ---- block error */
+static uint32_t score(size_t count, size_t length, bool snorm) {
+  return bc4_block_error(at(&samples), count, at(&encoded), length, snorm, at(&error), at(&nan_index));
+}
+
+static void scores(float x, const uint8_t *bytes, bool snorm, float expected) {
+  float got;
+  lend_all();
+  lend_samples(x, 16);
+  put(&encoded, bytes, 8);
+  EXPECT(score(16, 8, snorm) == BC4_OK);
+  take(&error, &got, sizeof got);
+  EXPECT(got == expected);
+  EXPECT(untouched());
+}
+
+static void block_errors(void) {
+  scores(0.0f, zeros, false, 0.0f);
+  scores(1.0f, zeros, false, 16.0f);
+  scores(7.0f, zeros, false, 16.0f);
+  scores(0.5f, ones, false, 4.0f);
+  scores(-1.0f / 0.0f, signed_zeros, true, 0.0f);
+  lend_all();
+  lend_samples(0.5f, 16);
+  set_sample(3, nan_of());
+  EXPECT(score(15, 7, false) == BC4_SAMPLE_COUNT && untouched());
+  EXPECT(score(17, 8, false) == BC4_SAMPLE_COUNT && untouched());
+  EXPECT(score(16, 7, false) == BC4_ENCODED_LENGTH && untouched());
+  EXPECT(score(16, 9, false) == BC4_ENCODED_LENGTH && untouched());
+  EXPECT(score(16, 8, false) == BC4_SAMPLE_IS_NAN);
+  EXPECT(taken_size(&nan_index) == 3);
+  EXPECT(untouched());
+}
+
+/* ---- resend */
+static uint32_t resend(size_t count, size_t length, uint32_t options) {
+  return bc4_resend(at(&samples), count, at(&encoded), length, options, at(&block), at(&fresh), at(&nan_index));
+}
+
+static void resends(float x, uint32_t options, const uint8_t *held, const uint8_t *expected, uint8_t is_fresh) {
+  uint8_t got[8], flag;
+  lend_all();
+  lend_samples(x, 16);
+  put(&encoded, held, 8);
+  EXPECT(resend(16, 8, options) == BC4_OK);
+  take(&block, got, 8);
+  take(&fresh, &flag, 1);
+  EXPECT(memcmp(got, expected, 8) == 0);
+  EXPECT(flag == is_fresh);
+  EXPECT(untouched());
+}
+
+static void resend_blocks(void) {
+  resends(1.0f, 0, zeros, ones, 1);
+  resends(1.0f, 0, ones, ones, 0);
+  /* an equal error: the held bytes stay */
+  resends(1.0f, 0, searched_ones, searched_ones, 0);
+  resends(0.0f, BC4_SNORM, ones, signed_zeros, 1);
+  lend_all();
+  lend_samples(0.5f, 16);
+  set_sample(15, nan_of());
+  EXPECT(resend(15, 7, BC4_DITHER) == BC4_SAMPLE_COUNT && untouched());
+  EXPECT(resend(16, 7, BC4_DITHER) == BC4_ENCODED_LENGTH && untouched());
+  EXPECT(resend(16, 9, malformed[2]) == BC4_ENCODED_LENGTH && untouched());
+  EXPECT(resend(16, 8, BC4_DITHER) == BC4_DITHERED_RESEND && untouched());
+  EXPECT(resend(16, 8, BC4_DITHER | malformed[1]) == BC4_DITHERED_RESEND && untouched());
+  EXPECT(resend(16, 8, malformed[1]) == BC4_SAMPLE_IS_NAN);
+  EXPECT(taken_size(&nan_index) == 15);
+  EXPECT(untouched());
+  lend_samples(0.5f, 16);
+  for (size_t k = 0; k < sizeof malformed / sizeof *malformed; k++) EXPECT(resend(16, 8, malformed[k]) == BC4_WORD_MALFORMED && untouched());
+}
+
+/* ---- encode tile */
+static uint32_t tile(size_t count, size_t width, size_t height, uint32_t options, size_t room) {
+  return bc4_encode_tile(at(&samples), count, width, height, options, at(&out), room, at(&written), at(&nan_index));
+}
+
+static void tiles(size_t width, size_t height, uint32_t options, size_t room) {
+  static uint8_t got[MOST];
+  float x[16];
+  const size_t n = width * height / 2;
+  lend_all();
+  lend_samples(0.0f, width * height);
+  for (size_t i = 0; i < width * height; i++) set_sample(i, (float)(i * 7919 % 1009) / 1009.0f);
+  EXPECT(tile(width * height, width, height, options, room) == BC4_OK);
+  EXPECT(taken_size(&written) == n);
+  take(&out, got, n);
+  EXPECT(untouched());
+  for (size_t row = 0; row < height / 4; row++)
+    for (size_t column = 0; column < width / 4; column++) {
+      uint8_t alone[8];
+      size_t none, where = 0;
+      for (size_t k = 0; k < 16; k++)
+        memcpy(x + k, samples.bytes + SIDE + ((4 * row + k / 4) * width + 4 * column + k % 4) * sizeof *x, sizeof *x);
+      EXPECT(bc4_encode_block(x, 16, options, alone, &none) == BC4_OK);
+      EXPECT(bc4_block_view(got, n, width, height, column, row, &where) == BC4_OK);
+      EXPECT(where == 8 * (row * (width / 4) + column));
+      EXPECT(memcmp(got + where, alone, 8) == 0);
+    }
+}
+
+static void encode_tiles(void) {
+  static const size_t bad[] = {0, 1, 2, 3, 6, 1028, (size_t)-4, (size_t)-1, (size_t)1 << 63};
+  tiles(4, 4, 0, 8);
+  tiles(8, 4, BC4_USE_INTER4, 16);
+  tiles(4, 8, BC4_DITHER, 100);
+  tiles(16, 12, BC4_SNORM | BC4_MAX_REFINE_ITER(3) | BC4_HIGH_QUALITY, 96);
+  tiles(1024, 4, 0, 2049);
+  tiles(4, 1024, 0, 2048);
+  lend_all();
+  lend_samples(0.5f, 64);
+  set_sample(17, nan_of());
+  set_sample(50, nan_of());
+  for (size_t k = 0; k < sizeof bad / sizeof *bad; k++) {
+    EXPECT(tile(63, bad[k], 8, malformed[0], 0) == BC4_SIZE && untouched());
+    EXPECT(tile(64, 8, bad[k], 0, 32) == BC4_SIZE && untouched());
+  }
+  EXPECT(tile(63, 8, 8, malformed[0], 0) == BC4_SAMPLE_COUNT && untouched());
+  EXPECT(tile(64, 8, 4, 0, 32) == BC4_SAMPLE_COUNT && untouched());
+  EXPECT(tile(64, 8, 8, malformed[0], 31) == BC4_OUTPUT_LENGTH && untouched());
+  EXPECT(tile(64, 8, 8, 0, 0) == BC4_OUTPUT_LENGTH && untouched());
+  EXPECT(tile(64, 8, 8, malformed[0], 32) == BC4_SAMPLE_IS_NAN);
+  EXPECT(taken_size(&nan_index) == 17);
+  EXPECT(untouched());
+  lend_samples(0.5f, 64);
+  EXPECT(tile(64, 8, 8, malformed[0], 32) == BC4_WORD_MALFORMED && untouched());
+}
+
+/* ---- block view */
+static uint32_t view(size_t length, size_t width, size_t height, size_t column, size_t row) {
+  return bc4_block_view(at(&encoded), length, width, height, column, row, at(&offset));
+}
+
+static void block_views(void) {
+  lend_all();
+  for (size_t row = 0; row < 3; row++)
+    for (size_t column = 0; column < 2; column++) {
+      EXPECT(view(48, 8, 12, column, row) == BC4_OK);
+      EXPECT(taken_size(&offset) == 16 * row + 8 * column);
+      EXPECT(untouched());
+    }
+  EXPECT(view(47, 0, 12, 9, 9) == BC4_SIZE && untouched());
+  EXPECT(view(48, 8, 1028, 0, 0) == BC4_SIZE && untouched());
+  EXPECT(view(47, 8, 12, 2, 0) == BC4_ENCODED_LENGTH && untouched());
+  EXPECT(view(49, 8, 12, 0, 0) == BC4_ENCODED_LENGTH && untouched());
+  EXPECT(view(48, 8, 12, 2, 0) == BC4_NO_SUCH_BLOCK && untouched());
+  EXPECT(view(48, 8, 12, 0, 3) == BC4_NO_SUCH_BLOCK && untouched());
+  EXPECT(view(48, 8, 12, (size_t)-1, (size_t)-1) == BC4_NO_SUCH_BLOCK && untouched());
+}
+
+/* ---- the list of the Rust's answers: an options word, sixteen samples, eight bytes */
+static void replayed(void) {
+  uint8_t entry[76], got[8];
+  long count = 0;
+  for (;;) {
+    size_t have = 0;
+    while (have < sizeof entry) {
+      long n = read(0, entry + have, sizeof entry - have);
+      if (n <= 0) break;
+      have += (size_t)n;
+    }
+    if (have < sizeof entry) break;
+    count++;
+    lend_all();
+    put(&samples, entry + 4, 64);
+    EXPECT(encode(16, entry[0] | BC4_MAX_REFINE_ITER(entry[1]) | (uint32_t)entry[2] << 16 | (uint32_t)entry[3] << 24) == BC4_OK);
+    take(&block, got, 8);
+    EXPECT(memcmp(got, entry + 68, 8) == 0);
+    EXPECT(untouched());
+  }
+  EXPECT(count > 4000);
+}
+
+int main(void) {
+  EXPECT(bc4_version() == BC4_VERSION);
+  encode_blocks();
+  decode_blocks();
+  block_errors();
+  resend_blocks();
+  encode_tiles();
+  block_views();
+  replayed();
+  printf("tests/c/exports.c: %ld checks, %ld differ\n", checks, differ);
+  return differ != 0;
+}
