@@ -25,6 +25,23 @@ use Rattle.bc4.specs.declared.Tiled.{Tiled}
 use Rattle.bc4.specs.declared.Tiled.the-variants.{Written, Refused as NotTiled}
 use Rattle.bc4.specs.Refusals.{lowest, encodeChecks, errorChecks, resendChecks, tileChecks, viewChecks}
 
+-- ---- the refusal of an answer, or none
+abbrev pub ofEncoded : Encoded → Checked
+ofEncoded (Block b) = Passed
+ofEncoded (NotEncoded q) = Refused q
+
+abbrev pub ofScored : Scored → Checked
+ofScored (Error e) = Passed
+ofScored (NotScored q) = Refused q
+
+abbrev pub ofResent : Resent → Checked
+ofResent (Answered h) = Passed
+ofResent (NotResent q) = Refused q
+
+abbrev pub ofTiled : Tiled → Checked
+ofTiled (Written n) = Passed
+ofTiled (NotTiled q) = Refused q
+
 -- ---- encode block
 unfoldable pub encodedOn : Checked → List Float → Options → Encoded
 encodedOn Passed samples o = Block (compressed samples o)

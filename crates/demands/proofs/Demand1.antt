@@ -12,8 +12,8 @@ use Rattle.bc4.specs.declared.refusal.Checked.{Checked}
 use Rattle.bc4.specs.declared.refusal.Checked.the-variants.{Passed, Refused}
 use Rattle.bc4.specs.Refusals.{lowest, encodeChecks, decodeChecks, errorChecks, resendChecks, tileChecks, viewChecks}
 use Rattle.bc4.specs.Word.{andWord}
-use Rattle.bc4.specs.Calls.{encodedOn, samplesAfter, scoredOn, resentOn, tiledOn, outAfter, viewOn}
-use Rattle.demands.specs.Demand1.{Exactly, Demand1, EncodeRefuses, DecodeRefuses, ErrorRefuses, ResendRefuses, TileRefuses, ViewRefuses, RecordRefuses, ofEncoded, ofScored, ofResent, ofTiled}
+use Rattle.bc4.specs.Calls.{ofEncoded, ofScored, ofResent, ofTiled, encodedOn, samplesAfter, scoredOn, resentOn, tiledOn, outAfter, viewOn}
+use Rattle.demands.specs.Demand1.{Exactly, Demand1, EncodeRefuses, DecodeRefuses, ErrorRefuses, ResendRefuses, TileRefuses, ViewRefuses, RecordRefuses}
 use Rattle.demands.proofs.Refusing.{exactly}
 use Rattle.demands.proofs.Conditions.{next-iff, last-iff, when-iff, iff-refl, unequal-iff, below-iff, size-iff, place-iff, nan-iff}
 

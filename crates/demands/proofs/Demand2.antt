@@ -26,9 +26,9 @@ use Rattle.bc4.specs.declared.Encoded.the-variants.{Block}
 use Rattle.bc4.specs.declared.Tiled.{Tiled}
 use Rattle.bc4.specs.declared.Tiled.the-variants.{Written, Refused as NotTiled}
 use Rattle.bc4.specs.Refusals.{lowest, encodeChecks, tileChecks}
-use Rattle.bc4.specs.Calls.{encodedOn, encodeAnswer, samplesAfter, tiledOn, outAfter}
+use Rattle.bc4.specs.Calls.{ofTiled, encodedOn, encodeAnswer, samplesAfter, tiledOn, outAfter}
 use Rattle.bc4.proofs.Lowest.{apart, Clear, lowest-clear, same-of}
-use Rattle.demands.specs.Demand1.{EncodeRefuses, ofTiled}
+use Rattle.demands.specs.Demand1.{EncodeRefuses}
 use Rattle.demands.specs.Demand2.{Demand2}
 use Rattle.demands.proofs.Conditions.{nan-free}
 use Rattle.demands.proofs.Demand1.{encode-exactly}

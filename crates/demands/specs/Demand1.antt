@@ -14,18 +14,11 @@ use Rattle.bc4.specs.declared.refusal.Refusal.{Refusal}
 use Rattle.bc4.specs.declared.refusal.Refusal.the-variants.{Size, SampleCount, EncodedLength, OutputLength, DitheredResend, NoSuchBlock, SampleIsNan, WordMalformed}
 use Rattle.bc4.specs.declared.refusal.Checked.{Checked}
 use Rattle.bc4.specs.declared.refusal.Checked.the-variants.{Passed, Refused}
-use Rattle.bc4.specs.declared.Encoded.{Encoded}
-use Rattle.bc4.specs.declared.Encoded.the-variants.{Block, Refused as NotEncoded}
-use Rattle.bc4.specs.declared.Scored.{Scored}
-use Rattle.bc4.specs.declared.Scored.the-variants.{Error, Refused as NotScored}
-use Rattle.bc4.specs.declared.Resent.{Resent}
-use Rattle.bc4.specs.declared.Resent.the-variants.{Block as Answered, Refused as NotResent}
-use Rattle.bc4.specs.declared.Tiled.{Tiled}
-use Rattle.bc4.specs.declared.Tiled.the-variants.{Written, Refused as NotTiled}
+use Rattle.bc4.specs.declared.Tiled.the-variants.{Refused as NotTiled}
 use Rattle.bc4.specs.Refusals.{numberOf, lowest, decodeChecks, viewChecks}
 use Rattle.bc4.specs.declared.word.Word.{Word}
 use Rattle.bc4.specs.Word.{encodeByWord}
-use Rattle.bc4.specs.Calls.{encodeAnswer, samplesAfter, errorAnswer, resendAnswer, tileAnswer, outAfter, viewOf}
+use Rattle.bc4.specs.Calls.{ofEncoded, ofScored, ofResent, ofTiled, encodeAnswer, samplesAfter, errorAnswer, resendAnswer, tileAnswer, outAfter, viewOf}
 
 -- ---- the table's conditions
 -- 1
@@ -90,23 +83,6 @@ ViewRefuses tile width height column row q =
 -- of the program's record: 2, 7, 8
 abbrev pub RecordRefuses : List Float → Word → Refusal → Type 0
 RecordRefuses samples w q = WhenUnequal q SampleCount (length samples) 16 ⊎ WhenNan q samples ⊎ When q WordMalformed (w .malformed ≡ true)
-
--- ---- the answers' refusals
-abbrev pub ofEncoded : Encoded → Checked
-ofEncoded (Block b) = Passed
-ofEncoded (NotEncoded q) = Refused q
-
-abbrev pub ofScored : Scored → Checked
-ofScored (Error e) = Passed
-ofScored (NotScored q) = Refused q
-
-abbrev pub ofResent : Resent → Checked
-ofResent (Answered h) = Passed
-ofResent (NotResent q) = Refused q
-
-abbrev pub ofTiled : Tiled → Checked
-ofTiled (Written n) = Passed
-ofTiled (NotTiled q) = Refused q
 
 -- ---- exactly when
 abbrev pub Iff : Type 0 → Type 0 → Type 0

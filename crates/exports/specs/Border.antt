@@ -58,28 +58,16 @@ nanAfter Passed before = before
 nanAfter (Refused q) before = nanOn q before
 
 -- ---- encode block
-abbrev pub ofEncoded : Encoded → Checked
-ofEncoded (Block b) = Passed
-ofEncoded (NotEncoded q) = Refused q
-
 abbrev pub blockAfter : Encoded → List ℕ → List ℕ
 blockAfter (Block b) before = bytesOf b
 blockAfter (NotEncoded q) before = before
 
 -- ---- block error
-abbrev pub ofScored : Scored → Checked
-ofScored (Error e) = Passed
-ofScored (NotScored q) = Refused q
-
 abbrev pub errorAfter : Scored → Float → Float
 errorAfter (Error e) before = e
 errorAfter (NotScored q) before = before
 
 -- ---- resend
-abbrev pub ofResent : Resent → Checked
-ofResent (Answered h) = Passed
-ofResent (NotResent q) = Refused q
-
 abbrev pub heldAfter : Resent → List ℕ → List ℕ
 heldAfter (Answered h) before = bytesOf (h .block)
 heldAfter (NotResent q) before = before
@@ -90,10 +78,6 @@ freshAfter (Answered h) before = cond (h .fresh) 1 0
 freshAfter (NotResent q) before = before
 
 -- ---- encode tile
-abbrev pub ofTiled : Tiled → Checked
-ofTiled (Written n) = Passed
-ofTiled (NotTiled q) = Refused q
-
 abbrev pub writtenAfter : Tiled → ℕ → ℕ
 writtenAfter (Written n) before = n
 writtenAfter (NotTiled q) before = before
