@@ -1,0 +1,473 @@
+//! Safe calls of the proved BC4 block codec: sixteen samples in eight bytes.
+//!
+//! The codec is the static library that `rt staticlib exports` writes, for x86-64 Linux. A build has to be told where it stands, and nothing else:
+//!
+//! ```text
+//! RUSTFLAGS="-L native=REPOSITORY/target/staticlib" cargo build
+//! ```
+//!
+//! Every call answers its value or a [`Refusal`]: of all that apply, the one of the lowest number. No call allocates or has a state.
+//!
+//! ```
+//! let samples = [1.0; 16];
+//! let block = bc4::encode_block(&samples, bc4::Options::default())?;
+//! assert_eq!(block, [255, 0, 0, 0, 0, 0, 0, 0]);
+//! assert_eq!(bc4::decode_block(&block, false)?, samples);
+//! # Ok::<(), bc4::Refusal>(())
+//! ```
+#![no_std]
+#![warn(missing_docs)]
+
+use core::fmt;
+
+#[link(name = "exports", kind = "static")]
+extern "C" {
+    fn bc4_version() -> u32;
+    fn bc4_encode_block(
+        samples: *const f32,
+        sample_count: usize,
+        options: u32,
+        block: *mut u8,
+        nan_index: *mut usize,
+    ) -> u32;
+    fn bc4_decode_block(
+        encoded: *const u8,
+        encoded_length: usize,
+        snorm: bool,
+        samples: *mut f32,
+    ) -> u32;
+    fn bc4_block_error(
+        samples: *const f32,
+        sample_count: usize,
+        encoded: *const u8,
+        encoded_length: usize,
+        snorm: bool,
+        error: *mut f32,
+        nan_index: *mut usize,
+    ) -> u32;
+    fn bc4_resend(
+        samples: *const f32,
+        sample_count: usize,
+        held: *const u8,
+        held_length: usize,
+        options: u32,
+        block: *mut u8,
+        fresh: *mut u8,
+        nan_index: *mut usize,
+    ) -> u32;
+    fn bc4_encode_tile(
+        samples: *const f32,
+        sample_count: usize,
+        width: usize,
+        height: usize,
+        options: u32,
+        out: *mut u8,
+        out_length: usize,
+        written: *mut usize,
+        nan_index: *mut usize,
+    ) -> u32;
+    fn bc4_block_view(
+        tile: *const u8,
+        tile_length: usize,
+        width: usize,
+        height: usize,
+        column: usize,
+        row: usize,
+        offset: *mut usize,
+    ) -> u32;
+}
+
+/// How the ends of a palette are rounded to bytes, by image-dds' names.
+#[derive(Clone, Copy, Debug, Default, PartialEq, Eq)]
+#[allow(missing_docs)]
+pub enum Quantization {
+    #[default]
+    Round,
+    MediumQuality,
+    HighQuality,
+}
+
+/// The options of the encoder, by image-dds' names. The default has no flag, no refinement, and [`Quantization::Round`].
+#[derive(Clone, Copy, Debug, Default, PartialEq, Eq)]
+#[allow(missing_docs)]
+pub struct Options {
+    pub dither: bool,
+    pub snorm: bool,
+    pub brute_force: bool,
+    pub use_inter4: bool,
+    pub use_inter4_heuristic: bool,
+    pub quantization: Quantization,
+    pub fast_iter: bool,
+    pub max_refine_iter: u8,
+    pub size_variations: bool,
+    pub iter_initial_inter4: bool,
+}
+
+impl Options {
+    fn word(self) -> u32 {
+        let flags = [
+            self.dither,
+            self.snorm,
+            self.brute_force,
+            self.use_inter4,
+            self.use_inter4_heuristic,
+            self.fast_iter,
+            self.size_variations,
+            self.iter_initial_inter4,
+        ];
+        let flags = flags
+            .iter()
+            .rev()
+            .fold(0, |bits, &set| bits * 2 + u8::from(set));
+        u32::from_le_bytes([flags, self.max_refine_iter, self.quantization as u8, 0])
+    }
+}
+
+/// Why a call gives no value.
+#[derive(Clone, Copy, Debug, PartialEq, Eq)]
+pub enum Refusal {
+    /// 1: a side of the tile is 0, over 1,024 or no multiple of 4.
+    Size,
+    /// 2: the sample count is not 16, or not width * height.
+    SampleCount,
+    /// 3: the encoded length is not 8, or not width * height / 2.
+    EncodedLength,
+    /// 4: the output is shorter than width * height / 2.
+    OutputLength,
+    /// 5: a resend with dither.
+    DitheredResend,
+    /// 6: the column or the row of blocks is none of the tile's.
+    NoSuchBlock,
+    /// 7: a sample is NaN; the lowest index.
+    SampleIsNan(usize),
+    /// 8: the options word is malformed. [`Options`] never make such a word.
+    WordMalformed,
+}
+
+impl Refusal {
+    /// The number that C sees.
+    ///
+    /// ```
+    /// assert_eq!(bc4::Refusal::SampleIsNan(3).number(), 7);
+    /// ```
+    pub fn number(self) -> u32 {
+        match self {
+            Refusal::Size => 1,
+            Refusal::SampleCount => 2,
+            Refusal::EncodedLength => 3,
+            Refusal::OutputLength => 4,
+            Refusal::DitheredResend => 5,
+            Refusal::NoSuchBlock => 6,
+            Refusal::SampleIsNan(_) => 7,
+            Refusal::WordMalformed => 8,
+        }
+    }
+}
+
+impl fmt::Display for Refusal {
+    fn fmt(&self, f: &mut fmt::Formatter<'_>) -> fmt::Result {
+        match self {
+            Refusal::Size => f.write_str("a side of the tile is 0, over 1,024 or no multiple of 4"),
+            Refusal::SampleCount => {
+                f.write_str("the sample count is not 16, or not width * height")
+            }
+            Refusal::EncodedLength => {
+                f.write_str("the encoded length is not 8, or not width * height / 2")
+            }
+            Refusal::OutputLength => f.write_str("the output is shorter than width * height / 2"),
+            Refusal::DitheredResend => f.write_str("a resend with dither"),
+            Refusal::NoSuchBlock => f.write_str("the tile has no such block"),
+            Refusal::SampleIsNan(i) => write!(f, "sample {i} is NaN"),
+            Refusal::WordMalformed => f.write_str("the options word is malformed"),
+        }
+    }
+}
+
+impl core::error::Error for Refusal {}
+
+fn checked(number: u32, nan_index: usize) -> Result<(), Refusal> {
+    Err(match number {
+        0 => return Ok(()),
+        1 => Refusal::Size,
+        2 => Refusal::SampleCount,
+        3 => Refusal::EncodedLength,
+        4 => Refusal::OutputLength,
+        5 => Refusal::DitheredResend,
+        6 => Refusal::NoSuchBlock,
+        7 => Refusal::SampleIsNan(nan_index),
+        8 => Refusal::WordMalformed,
+        _ => unreachable!("the library has no other number"),
+    })
+}
+
+/// Major, minor and patch number of the library, a byte each.
+///
+/// ```
+/// assert_eq!(bc4::version(), 0x010000);
+/// ```
+pub fn version() -> u32 {
+    // SAFETY: it takes nothing.
+    unsafe { bc4_version() }
+}
+
+/// Encodes sixteen samples, row by row. They are on the scale 0 to 1, and clamped to it.
+///
+/// Refuses [`Refusal::SampleCount`], [`Refusal::SampleIsNan`].
+///
+/// ```
+/// use bc4::{encode_block, Options, Refusal};
+/// let search = Options { brute_force: true, ..Options::default() };
+/// assert_eq!(encode_block(&[0.0; 16], search), Ok([0x01, 0x00, 0x49, 0x92, 0x24, 0x49, 0x92, 0x24]));
+/// let mut samples = [0.5; 16];
+/// samples[4] = f32::NAN;
+/// assert_eq!(encode_block(&samples, search), Err(Refusal::SampleIsNan(4)));
+/// assert_eq!(encode_block(&samples[1..], search), Err(Refusal::SampleCount));
+/// ```
+pub fn encode_block(samples: &[f32], options: Options) -> Result<[u8; 8], Refusal> {
+    let (mut block, mut nan_index) = ([0; 8], 0);
+    // SAFETY: each pointer is that of a reference, with its length; those written to are locals of this call.
+    let number = unsafe {
+        bc4_encode_block(
+            samples.as_ptr(),
+            samples.len(),
+            options.word(),
+            block.as_mut_ptr(),
+            &mut nan_index,
+        )
+    };
+    checked(number, nan_index)?;
+    Ok(block)
+}
+
+/// The sixteen samples that eight bytes mean, each in 0 to 1.
+///
+/// Refuses [`Refusal::EncodedLength`].
+///
+/// ```
+/// use bc4::{decode_block, Refusal};
+/// assert_eq!(decode_block(&[0x81, 0x81, 0, 0, 0, 0, 0, 0], true), Ok([0.0; 16]));
+/// assert_eq!(decode_block(&[0; 7], false), Err(Refusal::EncodedLength));
+/// ```
+pub fn decode_block(encoded: &[u8], snorm: bool) -> Result<[f32; 16], Refusal> {
+    let mut samples = [0.0; 16];
+    // SAFETY: as for `encode_block`.
+    let number =
+        unsafe { bc4_decode_block(encoded.as_ptr(), encoded.len(), snorm, samples.as_mut_ptr()) };
+    checked(number, 0)?;
+    Ok(samples)
+}
+
+/// The f32 sum, in order, of the squared distances between sixteen samples, clamped, and what eight bytes decode to.
+///
+/// Refuses [`Refusal::SampleCount`], [`Refusal::EncodedLength`], [`Refusal::SampleIsNan`].
+///
+/// ```
+/// use bc4::{block_error, Refusal};
+/// assert_eq!(block_error(&[1.0; 16], &[0; 8], false), Ok(16.0));
+/// assert_eq!(block_error(&[1.0; 16], &[0; 9], false), Err(Refusal::EncodedLength));
+/// ```
+pub fn block_error(samples: &[f32], encoded: &[u8], snorm: bool) -> Result<f32, Refusal> {
+    let (mut error, mut nan_index) = (0.0, 0);
+    // SAFETY: as for `encode_block`.
+    let number = unsafe {
+        bc4_block_error(
+            samples.as_ptr(),
+            samples.len(),
+            encoded.as_ptr(),
+            encoded.len(),
+            snorm,
+            &mut error,
+            &mut nan_index,
+        )
+    };
+    checked(number, nan_index)?;
+    Ok(error)
+}
+
+/// The bytes to hold from now on, and whether they are the fresh ones.
+#[derive(Clone, Copy, Debug, PartialEq, Eq)]
+pub struct Held {
+    /// The eight bytes.
+    pub block: [u8; 8],
+    /// Whether they were encoded afresh.
+    pub fresh: bool,
+}
+
+/// Encodes sixteen samples afresh, and takes the fresh bytes exactly where their block error is strictly below that of the held ones.
+///
+/// Refuses [`Refusal::SampleCount`], [`Refusal::EncodedLength`], [`Refusal::DitheredResend`], [`Refusal::SampleIsNan`].
+///
+/// ```
+/// use bc4::{resend, Held, Options, Refusal};
+/// let better = Held { block: [255, 0, 0, 0, 0, 0, 0, 0], fresh: true };
+/// assert_eq!(resend(&[1.0; 16], &[0; 8], Options::default()), Ok(better));
+/// assert_eq!(resend(&[1.0; 16], &better.block, Options::default()), Ok(Held { fresh: false, ..better }));
+/// let dithered = Options { dither: true, ..Options::default() };
+/// assert_eq!(resend(&[1.0; 16], &[0; 8], dithered), Err(Refusal::DitheredResend));
+/// ```
+pub fn resend(samples: &[f32], held: &[u8], options: Options) -> Result<Held, Refusal> {
+    let (mut block, mut fresh, mut nan_index) = ([0; 8], 0, 0);
+    // SAFETY: as for `encode_block`.
+    let number = unsafe {
+        bc4_resend(
+            samples.as_ptr(),
+            samples.len(),
+            held.as_ptr(),
+            held.len(),
+            options.word(),
+            block.as_mut_ptr(),
+            &mut fresh,
+            &mut nan_index,
+        )
+    };
+    checked(number, nan_index)?;
+    Ok(Held {
+        block,
+        fresh: fresh == 1,
+    })
+}
+
+/// Encodes a tile of width * height samples, row by row, into the first width * height / 2 bytes of `out`, and answers that count. The blocks stand
+/// row by row from the top left, each as [`encode_block`] gives it. Later bytes of `out` stay as they are, and on a refusal all do.
+///
+/// Refuses [`Refusal::Size`], [`Refusal::SampleCount`], [`Refusal::OutputLength`], [`Refusal::SampleIsNan`].
+///
+/// ```
+/// use bc4::{encode_tile, Options, Refusal};
+/// let mut out = [7; 18];
+/// assert_eq!(encode_tile(&[1.0; 32], 8, 4, Options::default(), &mut out), Ok(16));
+/// assert_eq!(out, [255, 0, 0, 0, 0, 0, 0, 0, 255, 0, 0, 0, 0, 0, 0, 0, 7, 7]);
+/// assert_eq!(encode_tile(&[1.0; 36], 6, 6, Options::default(), &mut out), Err(Refusal::Size));
+/// assert_eq!(encode_tile(&[1.0; 32], 8, 4, Options::default(), &mut out[..15]), Err(Refusal::OutputLength));
+/// ```
+pub fn encode_tile(
+    samples: &[f32],
+    width: usize,
+    height: usize,
+    options: Options,
+    out: &mut [u8],
+) -> Result<usize, Refusal> {
+    let (mut written, mut nan_index) = (0, 0);
+    // SAFETY: as for `encode_block`; `out` is borrowed mutably, so that it overlaps nothing.
+    let number = unsafe {
+        bc4_encode_tile(
+            samples.as_ptr(),
+            samples.len(),
+            width,
+            height,
+            options.word(),
+            out.as_mut_ptr(),
+            out.len(),
+            &mut written,
+            &mut nan_index,
+        )
+    };
+    checked(number, nan_index)?;
+    Ok(written)
+}
+
+/// The eight bytes of one block of an encoded tile: that part of it, not a copy.
+///
+/// Refuses [`Refusal::Size`], [`Refusal::EncodedLength`], [`Refusal::NoSuchBlock`].
+///
+/// ```
+/// use bc4::{block_view, Refusal};
+/// let tile: [u8; 32] = std::array::from_fn(|i| i as u8);
+/// assert_eq!(block_view(&tile, 8, 8, 1, 1), Ok(&tile[24..32]));
+/// assert_eq!(block_view(&tile, 8, 8, 2, 1), Err(Refusal::NoSuchBlock));
+/// ```
+pub fn block_view(
+    tile: &[u8],
+    width: usize,
+    height: usize,
+    column: usize,
+    row: usize,
+) -> Result<&[u8], Refusal> {
+    let mut offset = 0;
+    // SAFETY: as for `encode_block`.
+    let number = unsafe {
+        bc4_block_view(
+            tile.as_ptr(),
+            tile.len(),
+            width,
+            height,
+            column,
+            row,
+            &mut offset,
+        )
+    };
+    checked(number, 0)?;
+    Ok(&tile[offset..offset + 8])
+}
+
+#[cfg(test)]
+mod tests {
+    use super::{Options, Quantization};
+
+    #[test]
+    fn every_option_has_its_place_in_the_word() {
+        let none = Options::default();
+        let flags = [
+            Options {
+                dither: true,
+                ..none
+            },
+            Options {
+                snorm: true,
+                ..none
+            },
+            Options {
+                brute_force: true,
+                ..none
+            },
+            Options {
+                use_inter4: true,
+                ..none
+            },
+            Options {
+                use_inter4_heuristic: true,
+                ..none
+            },
+            Options {
+                fast_iter: true,
+                ..none
+            },
+            Options {
+                size_variations: true,
+                ..none
+            },
+            Options {
+                iter_initial_inter4: true,
+                ..none
+            },
+        ];
+        assert_eq!(none.word(), 0);
+        for (bit, options) in flags.into_iter().enumerate() {
+            assert_eq!(options.word(), 1 << bit);
+        }
+        assert_eq!(
+            Options {
+                max_refine_iter: 255,
+                ..none
+            }
+            .word(),
+            0xff00
+        );
+        assert_eq!(
+            Options {
+                quantization: Quantization::MediumQuality,
+                ..none
+            }
+            .word(),
+            0x010000
+        );
+        assert_eq!(
+            Options {
+                quantization: Quantization::HighQuality,
+                ..none
+            }
+            .word(),
+            0x020000
+        );
+    }
+}
