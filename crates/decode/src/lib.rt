@@ -42,25 +42,18 @@ pub fn table(c0: u8, c1: u8, snorm: bool) -> [f32; 8]
     p.colors
 }
 
-// The eight values are worked out once, and looked up sixteen times.
-pub fn samples(block: u64, snorm: bool) -> [f32; 16]
-    ensures { λ r. ⌜ r ≡ decoded snorm block ⌝ }
-{
-    let eight = table((block % 256) as u8, ((block >> 8) % 256) as u8, snorm);
-    let list = IndexList { data: block >> 16 };
-    let mut out = [0.0f32; 16];
-    for i in 0..16usize {
-        let at = list.get(i) as usize;
-        out[i] = eight[at];
-    }
-    out
-}
-
-// The same into the caller's array.
+// Sixteen samples into the caller's array. The eight values are worked out once, and looked up sixteen times.
 pub fn decode_into(block: u64, snorm: bool, out: &mut [f32; 16])
     ensures { λ _. ⌜ now (out .exit) ≡ decoded snorm block ⌝ }
 {
-    *out = samples(block, snorm);
+    let eight = table((block % 256) as u8, ((block >> 8) % 256) as u8, snorm);
+    let list = IndexList { data: block >> 16 };
+    let mut samples = [0.0f32; 16];
+    for i in 0..16usize {
+        let at = list.get(i) as usize;
+        samples[i] = eight[at];
+    }
+    *out = samples;
 }
 
 fn sample_error(sample: f32, value: f32) -> f32
@@ -83,6 +76,7 @@ fn error_sum(samples: &[f32; 16], values: &[f32; 16]) -> f32
 pub fn block_error(samples: &[f32; 16], block: u64, snorm: bool) -> f32
     ensures { λ r. ⌜ r ≡ blockError snorm (now (samples .entry)) block ⌝ }
 {
-    let values = crate::samples(block, snorm);
+    let mut values = [0.0f32; 16];
+    decode_into(block, snorm, &mut values);
     error_sum(samples, &values)
 }

@@ -7,14 +7,14 @@ use borrow.Author.Needs.{needs}
 use Rattle.palette.specs.Palettes.{entry}
 use Rattle.block.proofs.Fill.{Filled, fill-start, fill-step, fill-end}
 use Rattle.decode.specs.Meaning.{sampleAt, decoded}
-use Rattle.decode.proofs.samples.Statement.{statement}
-use Rattle.decode.proofs.samples.Tie as tie
+use Rattle.decode.proofs.decode_into.Statement.{statement}
+use Rattle.decode.proofs.decode_into.Tie as tie
 
 abbrev Inv-loop : tie.InvT-loop
-Inv-loop block snorm eight list out₀ i₀ out i = (i ≤ 16) × Filled nan (sampleAt snorm block) 16 out i
+Inv-loop block snorm lent eight list out₀ i₀ out i = (i ≤ 16) × Filled nan (sampleAt snorm block) 16 out i
 
 abbrev μ-loop : tie.MeasureT-loop
-μ-loop block snorm eight list out₀ i₀ out i = 16 - i
+μ-loop block snorm lent eight list out₀ i₀ out i = 16 - i
 
 cast-table : tie.Need-cast-table Inv-loop μ-loop
 cast-table c = search needs
@@ -34,17 +34,17 @@ get-requires c κs = search needs
 cast-at : tie.Need-cast-at Inv-loop μ-loop
 cast-at c = search needs
 
-mul-out : tie.Need-mul-out Inv-loop μ-loop
-mul-out c = search needs
+mul-samples : tie.Need-mul-samples Inv-loop μ-loop
+mul-samples c = search needs
 
-array-read-out : tie.Need-array-read-out Inv-loop μ-loop
-array-read-out c = search needs
+array-read-samples : tie.Need-array-read-samples Inv-loop μ-loop
+array-read-samples c = search needs
 
-mul-out-2 : tie.Need-mul-out-2 Inv-loop μ-loop
-mul-out-2 c = search needs
+mul-samples-2 : tie.Need-mul-samples-2 Inv-loop μ-loop
+mul-samples-2 c = search needs
 
-array-write-out : tie.Need-array-write-out Inv-loop μ-loop
-array-write-out c = search needs
+array-write-samples : tie.Need-array-write-samples Inv-loop μ-loop
+array-write-samples c = search needs
 
 add-i : tie.Need-add-i Inv-loop μ-loop
 add-i c = search needs
@@ -58,17 +58,17 @@ loop-again c =
     let a = h .before .before .args in
     let v = entry (h .before .table .result) (c .get .result) in
     let e : v ≡ sampleAt (a .snorm) (a .block) (h .loop .i) = rw (c .get .ensures, h .before .table .ensures, div-one) in
-    (search needs, fill-step nan (sampleAt (a .snorm) (a .block)) 16 (h .loop .out) (h .loop .i) v (h .loop .inv .1) (c .before .loop-test .taken) e)
+    (search needs, fill-step nan (sampleAt (a .snorm) (a .block)) 16 (h .loop .samples) (h .loop .i) v (h .loop .inv .1) (c .before .loop-test .taken) e)
 
 returns : tie.Need-returns Inv-loop μ-loop
 unfolding decoded
 returns c =
     let h = c .before in
     let a = h .before .before .args in
-    fill-end nan (sampleAt (a .snorm) (a .block)) 16 (h .loop .out) (h .loop .i) (h .loop .inv .1) (omega arith)
+    fill-end nan (sampleAt (a .snorm) (a .block)) 16 (h .loop .samples) (h .loop .i) (h .loop .inv .1) (omega arith)
 
-pub samples-spec : {M : Type 1} → statement M
-samples-spec =
+pub decode-into-spec : {M : Type 1} → statement M
+decode-into-spec =
     tie.close
     (tie.spec
     Inv-loop
@@ -79,10 +79,10 @@ samples-spec =
     loop-holds
     get-requires
     cast-at
-    mul-out
-    array-read-out
-    mul-out-2
-    array-write-out
+    mul-samples
+    array-read-samples
+    mul-samples-2
+    array-write-samples
     add-i
     loop-less
     loop-again
