@@ -29,8 +29,7 @@ fn six_values(c0: f32, c1: f32) -> [f32; 8]
     ]
 }
 
-// The eight decoded values, by index.
-pub fn table(c0: u8, c1: u8, snorm: bool) -> [f32; 8]
+fn values_in(c0: u8, c1: u8, snorm: bool) -> [f32; 8]
     ensures { λ r. ⌜ r ≡ tableOf snorm c0 c1 ⌝ }
 {
     let x = values::value(c0, snorm);
@@ -40,6 +39,16 @@ pub fn table(c0: u8, c1: u8, snorm: bool) -> [f32; 8]
     }
     let p = Inter4Palette::new(x, y);
     p.colors
+}
+
+// The eight decoded values, by index. The format is told apart here, once, so that each gets straight code.
+pub fn table(c0: u8, c1: u8, snorm: bool) -> [f32; 8]
+    ensures { λ r. ⌜ r ≡ tableOf snorm c0 c1 ⌝ }
+{
+    if snorm {
+        return values_in(c0, c1, true);
+    }
+    values_in(c0, c1, false)
 }
 
 // Sixteen samples into the caller's array. The eight values are worked out once, and looked up sixteen times.
