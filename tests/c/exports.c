@@ -1,13 +1,9 @@
 /* Calls every export with right and wrong arguments, and compares numbers, values and every byte that was lent. Standard input is
    crates/replay/stdin: records and the Rust's blocks for them. Exits with 1 where anything differs. */
-#include "../../include/bc4.h"
-
-/* Of the C library, declared here: the kit has no headers of it. */
-int printf(const char *, ...);
-void *memcpy(void *, const void *, size_t);
-void *memset(void *, int, size_t);
-int memcmp(const void *, const void *, size_t);
-long read(int, void *, size_t);
+#include <stdio.h>
+#include <string.h>
+#include <unistd.h>
+#include "bc4.h"
 
 static long checks, differ;
 

@@ -1,0 +1,5 @@
+#ifndef UNISTD_H
+#define UNISTD_H
+#include <stddef.h>
+long read(int, void *, size_t);
+#endif
