@@ -5,6 +5,15 @@ use std::hint::black_box;
 extern "C" {
     fn bc4_encode_block(samples: *const f32, count: usize, options: u32, block: *mut u8, nan: *mut usize) -> u32;
     fn bc4_decode_block(encoded: *const u8, length: usize, snorm: bool, samples: *mut f32) -> u32;
+    fn bc4_block_error(
+        samples: *const f32,
+        count: usize,
+        encoded: *const u8,
+        length: usize,
+        snorm: bool,
+        error: *mut f32,
+        nan: *mut usize,
+    ) -> u32;
     fn bc4_encode_tile(
         samples: *const f32,
         count: usize,
@@ -129,6 +138,52 @@ fn main() {
         .collect();
     line("exhaustive search, 20 blocks, median of 3", &columns);
     tile(&mut r, runs);
+    println!("\nwhat the options buy: ns a block, and the root mean square of a sample's error in thousandths; random blocks, then smooth ones");
+    let steps: &[(&str, [u8; 4])] = &[
+        ("all off", [0, 0, 0, 0]),
+        ("dither", [1, 0, 0, 0]),
+        ("use_inter4", [8, 0, 0, 0]),
+        ("use_inter4, max_refine_iter 2, fast_iter", [0x28, 2, 0, 0]),
+        ("the same, medium", [0x28, 2, 1, 0]),
+        ("the same, medium, use_inter4_heuristic", [0x38, 2, 1, 0]),
+        ("use_inter4, max_refine_iter 10", [8, 10, 0, 0]),
+        ("the same, high", [8, 10, 2, 0]),
+        ("the same, high, size_variations", [0x48, 10, 2, 0]),
+        ("the same, and iter_initial_inter4", [0xC8, 10, 2, 0]),
+        ("brute_force", [4, 0, 0, 0]),
+    ];
+    for (name, w) in steps {
+        print!("{name:44}");
+        for set in [&random, &smooth] {
+            let (ns, off) = bought(set, *w, if w[0] == 4 { 1 } else { runs });
+            print!("{ns:12.0}{off:12.2}");
+        }
+        println!();
+    }
+}
+
+/// The median time of a block, and how far its decoded samples are from those that were handed in.
+fn bought(set: &[[f32; 16]], word: [u8; 4], runs: usize) -> (f64, f64) {
+    let (word, snorm) = (u32::from_le_bytes(word), word[0] & 2 != 0);
+    let mut t: Vec<f64> = (0..runs)
+        .map(|_| {
+            let start = cpu_ns();
+            set.iter().for_each(|b| {
+                black_box(ours(black_box(b), black_box(word)));
+            });
+            (cpu_ns() - start) / set.len() as f64
+        })
+        .collect();
+    t.sort_by(f64::total_cmp);
+    let sum: f64 = set
+        .iter()
+        .map(|b| {
+            let (block, mut error, mut nan) = (ours(b, word).to_le_bytes(), 0.0, 0);
+            assert!(unsafe { bc4_block_error(b.as_ptr(), 16, block.as_ptr(), 8, snorm, &mut error, &mut nan) } == 0);
+            error as f64
+        })
+        .sum();
+    (t[runs / 2], 1000.0 * (sum / (16 * set.len()) as f64).sqrt())
 }
 
 /// A tile of 1,024 by 1,024: encoded by one call beside the Rust block by block, and decoded block by block, each to its own place, beside a plain decoder in C.

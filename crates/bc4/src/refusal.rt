@@ -1,6 +1,7 @@
 // Document 01, "Calls and numbers": every refusal, its number, and the checks of each call, in number order.
 ghost use mathlib.Core.Path.{_≡_};
 ghost use mathlib.Core.List.{[], _∷_};
+ghost use lib.Dec.{ltb};
 ghost use lib.ListN.{length};
 ghost use Rattle.bc4.specs.Refusals.{numberOf, lowest, orMalformed, firstNan, nanCheck, encodeChecks, decodeChecks, errorChecks, resendChecks, tileChecks, viewChecks};
 use refine::options::Options;
@@ -44,6 +45,20 @@ pub fn number(refusal: Refusal) -> u8
     }
 }
 
+// Looks at all of them: without a way out of its loop it takes four at a time.
+fn any_nan(samples: &[f32]) -> bool
+    ensures { λ r. ⌜ r ≡ ltb (firstNan (now (samples .entry))) (length (now (samples .entry))) ⌝ }
+{
+    let mut found = false;
+    let mut i = 0;
+    while i < samples.len() {
+        let x = samples[i];
+        found = found | (x != x);
+        i += 1;
+    }
+    found
+}
+
 // The index of the first NaN, or the length where there is none.
 fn first_nan(samples: &[f32]) -> usize
     ensures { λ r. ⌜ r ≡ firstNan (now (samples .entry)) ⌝ }
@@ -62,9 +77,8 @@ fn first_nan(samples: &[f32]) -> usize
 fn no_nan(samples: &[f32]) -> Checked
     ensures { λ r. ⌜ r ≡ lowest (nanCheck (now (samples .entry)) ∷ []) ⌝ }
 {
-    let i = first_nan(samples);
-    if i < samples.len() {
-        return Checked::Refused(Refusal::SampleIsNan(i));
+    if any_nan(samples) {
+        return Checked::Refused(Refusal::SampleIsNan(first_nan(samples)));
     }
     Checked::Passed
 }
