@@ -1,4 +1,4 @@
-//! bench [BLOCKS [RUNS]]: the library beside the Rust text, one process, ns of this thread's CPU time a block, medians of RUNS taken in turn.
+//! bench BLOCKS RUNS: the library beside the Rust text, one process, ns of this thread's CPU time a block, medians of RUNS taken in turn.
 include!("root.rs");
 use std::hint::black_box;
 
@@ -83,8 +83,7 @@ fn line(name: &str, columns: &[(f64, f64)]) {
 
 fn main() {
     let args: Vec<String> = std::env::args().collect();
-    let n: usize = args.get(1).map_or(4096, |s| s.parse().unwrap());
-    let runs: usize = args.get(2).map_or(15, |s| s.parse().unwrap());
+    let (n, runs): (usize, usize) = (args[1].parse().unwrap(), args[2].parse().unwrap());
     let mut r = Rng(1);
     let random: Vec<[f32; 16]> = (0..n).map(|_| std::array::from_fn(|_| r.f())).collect();
     let smooth: Vec<[f32; 16]> = (0..n)
