@@ -3,14 +3,10 @@ use crate::given;
 use crate::show;
 use given::Sixteen;
 
-// The first `length` of the bytes.
-fn answer(encoded: &[u8], length: usize, snorm: bool) {
-    if encoded.len() < length {
-        return;
-    }
+fn answer(encoded: &[u8], snorm: bool) {
     let mut samples = given::block(Sixteen::Slopes);
     show::text(b":");
-    show::if_refused(bc4::decode_block(&encoded[0..length], snorm, &mut samples));
+    show::if_refused(bc4::decode_block(encoded, snorm, &mut samples));
     show::floats(&samples);
     show::text(b"\n");
 }
@@ -18,17 +14,16 @@ fn answer(encoded: &[u8], length: usize, snorm: bool) {
 fn long(length: usize, snorm: bool) {
     let b = given::bytes();
     show::text(b"decode ");
-    show::number(length);
-    show::text(b" bytes");
+    show::byte_count(length);
     show::format(snorm);
-    answer(&b, length, snorm);
+    answer(given::first_bytes(&b, length), snorm);
 }
 
 fn valued(encoded: [u8; 8], snorm: bool) {
     show::text(b"decode ");
     show::bytes(&encoded);
     show::format(snorm);
-    answer(&encoded, 8, snorm);
+    answer(&encoded, snorm);
 }
 
 // c0 and c1 with the indexes 0 to 7, twice.

@@ -13,13 +13,9 @@ pub fn shown(e: Encoded) {
     }
 }
 
-// The first `count` of the samples.
-fn answer(samples: &[f32], count: usize, o: Options) {
-    if samples.len() < count {
-        return;
-    }
+fn answer(samples: &[f32], o: Options) {
     show::text(b": ");
-    shown(bc4::encode_block(&samples[0..count], o));
+    shown(bc4::encode_block(samples, o));
     show::text(b"\n");
 }
 
@@ -27,10 +23,12 @@ fn answer(samples: &[f32], count: usize, o: Options) {
 fn counted(count: usize, first: usize, second: usize) {
     let s = given::samples(first, second);
     show::text(b"encode ");
-    show::number(count);
-    show::text(b" samples");
+    show::sample_count(count);
     show::nans(first, second);
-    answer(&s, count, given::options(false, false, false));
+    answer(
+        given::first_samples(&s, count),
+        given::options(false, false, false),
+    );
 }
 
 fn valued(what: Sixteen, dither: bool, snorm: bool, search: bool) {
@@ -40,7 +38,7 @@ fn valued(what: Sixteen, dither: bool, snorm: bool, search: bool) {
     show::format(snorm);
     show::dither(dither);
     show::search(search);
-    answer(&s, 16, given::options(dither, snorm, search));
+    answer(&s, given::options(dither, snorm, search));
 }
 
 fn counts() {

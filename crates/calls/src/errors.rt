@@ -17,16 +17,9 @@ fn shown(s: Scored) {
     }
 }
 
-// The first `count` of the samples, the first `length` of the bytes.
-fn answer(samples: &[f32], count: usize, encoded: &[u8], length: usize, snorm: bool) {
-    if samples.len() < count {
-        return;
-    }
-    if encoded.len() < length {
-        return;
-    }
+fn answer(samples: &[f32], encoded: &[u8], snorm: bool) {
     show::text(b": ");
-    shown(bc4::block_error(&samples[0..count], &encoded[0..length], snorm));
+    shown(bc4::block_error(samples, encoded, snorm));
     show::text(b"\n");
 }
 
@@ -35,12 +28,15 @@ fn counted(count: usize, length: usize, first: usize, second: usize) {
     let s = given::samples(first, second);
     let b = given::bytes();
     show::text(b"error of ");
-    show::number(count);
-    show::text(b" samples and ");
-    show::number(length);
-    show::text(b" bytes");
+    show::sample_count(count);
+    show::text(b" and ");
+    show::byte_count(length);
     show::nans(first, second);
-    answer(&s, count, &b, length, false);
+    answer(
+        given::first_samples(&s, count),
+        given::first_bytes(&b, length),
+        false,
+    );
 }
 
 fn valued(what: Sixteen, encoded: [u8; 8], snorm: bool) {
@@ -50,7 +46,7 @@ fn valued(what: Sixteen, encoded: [u8; 8], snorm: bool) {
     show::text(b" and ");
     show::bytes(&encoded);
     show::format(snorm);
-    answer(&s, 16, &encoded, 8, snorm);
+    answer(&s, &encoded, snorm);
 }
 
 fn counts() {

@@ -56,6 +56,21 @@ pub fn fill_bytes(out: &mut [u8]) {
     }
 }
 
+// The first `count`, or all where there are no more.
+pub fn first_samples(s: &[f32], count: usize) -> &[f32] {
+    if count < s.len() {
+        return &s[0..count];
+    }
+    s
+}
+
+pub fn first_bytes(s: &[u8], count: usize) -> &[u8] {
+    if count < s.len() {
+        return &s[0..count];
+    }
+    s
+}
+
 // One more than a block has.
 pub fn samples(first: usize, second: usize) -> [f32; 17] {
     let mut s = [0.0f32; 17];

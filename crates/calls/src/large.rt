@@ -11,15 +11,13 @@ fn tiled(samples: &mut [f32; 1048576], nan: usize, out: &mut [u8; 524296]) {
     tiles::size(1024, 1024);
     show::nans(nan, NONE);
     tiles::answer(samples, 1024, 1024, false, out);
-    show::text(b", out ");
-    show::checksum(out);
-    show::text(b"\n");
+    tiles::after(out);
 }
 
-fn past_the_blocks(out: &[u8]) {
+fn past(out: &[u8], blocks: usize) {
     show::text(b"after it ");
-    if 524288 <= out.len() {
-        show::bytes(&out[524288..]);
+    if blocks <= out.len() {
+        show::bytes(&out[blocks..]);
     }
     show::text(b"\n");
 }
@@ -27,11 +25,11 @@ fn past_the_blocks(out: &[u8]) {
 fn viewed(out: &[u8], column: usize, row: usize) {
     views::place(column, row);
     tiles::size(1024, 1024);
-    views::part(out, 524288, 1024, 1024, column, row);
+    views::answer(given::first_bytes(out, 524288), 1024, 1024, column, row);
 }
 
 fn looked_at(out: &[u8; 524296]) {
-    past_the_blocks(out);
+    past(out, 524288);
     viewed(out, 0, 0);
     viewed(out, 255, 0);
     viewed(out, 255, 255);

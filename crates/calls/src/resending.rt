@@ -24,16 +24,9 @@ fn shown(r: Resent) {
     }
 }
 
-// The first `count` of the samples, the first `length` of the bytes.
-fn answer(samples: &[f32], count: usize, held: &[u8], length: usize, o: Options) {
-    if samples.len() < count {
-        return;
-    }
-    if held.len() < length {
-        return;
-    }
+fn answer(samples: &[f32], held: &[u8], o: Options) {
     show::text(b": ");
-    shown(bc4::resend(&samples[0..count], &held[0..length], o));
+    shown(bc4::resend(samples, held, o));
     show::text(b"\n");
 }
 
@@ -42,13 +35,16 @@ fn counted(count: usize, length: usize, dither: bool, nan: usize) {
     let s = given::samples(nan, NONE);
     let b = given::bytes();
     show::text(b"resend ");
-    show::number(count);
-    show::text(b" samples over ");
-    show::number(length);
-    show::text(b" bytes");
+    show::sample_count(count);
+    show::text(b" over ");
+    show::byte_count(length);
     show::dither(dither);
     show::nans(nan, NONE);
-    answer(&s, count, &b, length, given::options(dither, false, false));
+    answer(
+        given::first_samples(&s, count),
+        given::first_bytes(&b, length),
+        given::options(dither, false, false),
+    );
 }
 
 fn valued(what: Sixteen, held: [u8; 8], snorm: bool) {
@@ -58,7 +54,7 @@ fn valued(what: Sixteen, held: [u8; 8], snorm: bool) {
     show::text(b" over ");
     show::bytes(&held);
     show::format(snorm);
-    answer(&s, 16, &held, 8, given::options(false, snorm, false));
+    answer(&s, &held, given::options(false, snorm, false));
 }
 
 fn counts() {
@@ -104,94 +100,46 @@ fn more_together() {
     counted(17, 9, true, 3);
 }
 
+fn zeros(held: [u8; 8], snorm: bool) {
+    valued(Sixteen::Zeros, held, snorm);
+}
+
+fn slopes(held: [u8; 8], snorm: bool) {
+    valued(Sixteen::Slopes, held, snorm);
+}
+
+fn both_infinite(held: [u8; 8], snorm: bool) {
+    valued(Sixteen::BothInfinite, held, snorm);
+}
+
 // An equal error keeps the held bytes: index 6 of the four-value mode is 0, as is each endpoint here.
 fn ties() {
-    valued(
-        Sixteen::Zeros,
-        [0x00, 0x00, 0xb6, 0x6d, 0xdb, 0xb6, 0x6d, 0xdb],
-        false,
-    );
-    valued(
-        Sixteen::Zeros,
-        [0x00, 0x00, 0x00, 0x00, 0x00, 0x00, 0x00, 0x00],
-        false,
-    );
-    valued(
-        Sixteen::Zeros,
-        [0x80, 0x80, 0xb6, 0x6d, 0xdb, 0xb6, 0x6d, 0xdb],
-        true,
-    );
-    valued(
-        Sixteen::Zeros,
-        [0x81, 0x81, 0x00, 0x00, 0x00, 0x00, 0x00, 0x00],
-        true,
-    );
+    zeros([0x00, 0x00, 0xb6, 0x6d, 0xdb, 0xb6, 0x6d, 0xdb], false);
+    zeros([0x00, 0x00, 0x00, 0x00, 0x00, 0x00, 0x00, 0x00], false);
+    zeros([0x80, 0x80, 0xb6, 0x6d, 0xdb, 0xb6, 0x6d, 0xdb], true);
+    zeros([0x81, 0x81, 0x00, 0x00, 0x00, 0x00, 0x00, 0x00], true);
 }
 
 // The fresh bytes themselves; better ones, which the search found; and worse ones, which are replaced.
 fn values() {
-    valued(
-        Sixteen::Slopes,
-        [0x56, 0x00, 0xb9, 0x5d, 0xce, 0xe5, 0x24, 0x4c],
-        false,
-    );
-    valued(
-        Sixteen::Slopes,
-        [0x51, 0x07, 0xc9, 0x5d, 0xce, 0xe5, 0x04, 0x4c],
-        false,
-    );
-    valued(
-        Sixteen::Slopes,
-        [0x00, 0x00, 0x00, 0x00, 0x00, 0x00, 0x00, 0x00],
-        false,
-    );
-    valued(
-        Sixteen::Slopes,
-        [0x56, 0x00, 0xb9, 0x5d, 0xce, 0xe5, 0x24, 0x00],
-        false,
-    );
+    slopes([0x56, 0x00, 0xb9, 0x5d, 0xce, 0xe5, 0x24, 0x4c], false);
+    slopes([0x51, 0x07, 0xc9, 0x5d, 0xce, 0xe5, 0x04, 0x4c], false);
+    slopes([0x00, 0x00, 0x00, 0x00, 0x00, 0x00, 0x00, 0x00], false);
+    slopes([0x56, 0x00, 0xb9, 0x5d, 0xce, 0xe5, 0x24, 0x00], false);
 }
 
 fn signed_values() {
-    valued(
-        Sixteen::Slopes,
-        [0xd7, 0x81, 0xb9, 0x5d, 0xce, 0xe5, 0x24, 0x6c],
-        true,
-    );
-    valued(
-        Sixteen::Slopes,
-        [0xd3, 0x83, 0xb9, 0x5d, 0xce, 0xe5, 0x04, 0x4c],
-        true,
-    );
-    valued(
-        Sixteen::Slopes,
-        [0x81, 0x81, 0x00, 0x00, 0x00, 0x00, 0x00, 0x00],
-        true,
-    );
-    valued(
-        Sixteen::Slopes,
-        [0xd7, 0x81, 0xb9, 0x5d, 0xce, 0xe5, 0x24, 0x00],
-        true,
-    );
+    slopes([0xd7, 0x81, 0xb9, 0x5d, 0xce, 0xe5, 0x24, 0x6c], true);
+    slopes([0xd3, 0x83, 0xb9, 0x5d, 0xce, 0xe5, 0x04, 0x4c], true);
+    slopes([0x81, 0x81, 0x00, 0x00, 0x00, 0x00, 0x00, 0x00], true);
+    slopes([0xd7, 0x81, 0xb9, 0x5d, 0xce, 0xe5, 0x24, 0x00], true);
 }
 
 // Infinite samples are as 0 and 1: the fresh bytes have no error, so only held ones with an error give way.
 fn infinite() {
-    valued(
-        Sixteen::BothInfinite,
-        [0x00, 0x00, 0x00, 0x00, 0x00, 0x00, 0x00, 0x00],
-        false,
-    );
-    valued(
-        Sixteen::BothInfinite,
-        [0x00, 0xff, 0xb6, 0x6d, 0xdb, 0xff, 0xff, 0xff],
-        false,
-    );
-    valued(
-        Sixteen::BothInfinite,
-        [0x80, 0x7f, 0xb6, 0x6d, 0xdb, 0xff, 0xff, 0xff],
-        true,
-    );
+    both_infinite([0x00, 0x00, 0x00, 0x00, 0x00, 0x00, 0x00, 0x00], false);
+    both_infinite([0x00, 0xff, 0xb6, 0x6d, 0xdb, 0xff, 0xff, 0xff], false);
+    both_infinite([0x80, 0x7f, 0xb6, 0x6d, 0xdb, 0xff, 0xff, 0xff], true);
 }
 
 pub fn cases() {

@@ -17,6 +17,16 @@ pub fn number(n: usize) {
     io::print_decimal(STDOUT_FILENO, n as u64);
 }
 
+pub fn sample_count(n: usize) {
+    number(n);
+    text(b" samples");
+}
+
+pub fn byte_count(n: usize) {
+    number(n);
+    text(b" bytes");
+}
+
 fn wide(b: u8) -> u64
     ensures { λ r. ⌜ r < 256 ⌝ }
 {

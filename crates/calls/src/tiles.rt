@@ -30,15 +30,18 @@ pub fn answer(samples: &[f32], width: usize, height: usize, snorm: bool, out: &m
     ));
 }
 
-// The first `count` of the samples, into the first `room` bytes.
-fn part(samples: &[f32], count: usize, width: usize, height: usize, out: &mut [u8], room: usize) {
-    if samples.len() < count {
-        return;
+// Into the first `room` bytes.
+fn into(samples: &[f32], width: usize, height: usize, out: &mut [u8], room: usize) {
+    if room <= out.len() {
+        answer(samples, width, height, false, &mut out[0..room]);
     }
-    if out.len() < room {
-        return;
-    }
-    answer(&samples[0..count], width, height, false, &mut out[0..room]);
+}
+
+// All of the lent output, at the end of a line.
+pub fn after(out: &[u8]) {
+    show::text(b", out ");
+    show::checksum(out);
+    show::text(b"\n");
 }
 
 pub fn size(width: usize, height: usize) {
@@ -55,15 +58,18 @@ fn tiled(width: usize, height: usize, count: usize, room: usize, first: usize, s
     show::text(b"tile ");
     size(width, height);
     show::text(b", ");
-    show::number(count);
-    show::text(b" samples into ");
-    show::number(room);
-    show::text(b" bytes");
+    show::sample_count(count);
+    show::text(b" into ");
+    show::byte_count(room);
     show::nans(first, second);
-    part(&s, count, width, height, &mut out, room);
-    show::text(b", out ");
-    show::checksum(&out);
-    show::text(b"\n");
+    into(
+        given::first_samples(&s, count),
+        width,
+        height,
+        &mut out,
+        room,
+    );
+    after(&out);
 }
 
 fn widths() {

@@ -6,19 +6,12 @@ use tiles::FAR;
 
 const FARTHEST: usize = 0xffff_ffff_ffff_ffff;
 
-fn answer(tile: &[u8], width: usize, height: usize, column: usize, row: usize) {
+pub fn answer(tile: &[u8], width: usize, height: usize, column: usize, row: usize) {
     show::text(b":");
     show::if_refused(bc4::view_refusal(tile, width, height, column, row));
     show::text(b" [");
     show::bytes(bc4::block_view(tile, width, height, column, row));
     show::text(b"]\n");
-}
-
-// The first `length` of the bytes.
-pub fn part(tile: &[u8], length: usize, width: usize, height: usize, column: usize, row: usize) {
-    if length <= tile.len() {
-        answer(&tile[0..length], width, height, column, row);
-    }
 }
 
 pub fn place(column: usize, row: usize) {
@@ -35,9 +28,8 @@ fn viewed(width: usize, height: usize, length: usize, column: usize, row: usize)
     place(column, row);
     tiles::size(width, height);
     show::text(b", ");
-    show::number(length);
-    show::text(b" bytes");
-    part(&t, length, width, height, column, row);
+    show::byte_count(length);
+    answer(given::first_bytes(&t, length), width, height, column, row);
 }
 
 fn widths() {
