@@ -16,7 +16,7 @@ use Rattle.index_list.specs.Indexes.{indexAt, setAt, filledTo}
 use Rattle.index_list.proofs.Laws.{filled-unset}
 use Rattle.palette.specs.declared.Closest.{Closest}
 use Rattle.bcn_util.specs.Diffusion.{sixteenths, weights, given, diffused}
-use Rattle.bcn_util.specs.Dither.{ditherStep, ditherTo}
+use Rattle.bcn_util.specs.Dither.{ditherStep, ditherTo, blockDither}
 
 and-true : (p : Bool) → (p && true) ≡ p
 and-true true = refl
@@ -59,11 +59,6 @@ module _ (rule : Float → Closest) (b : List Float) where
   unfolding ditherTo
   reached-start d e = record { map-is = refl; indexes-is = e; total-is = refl }
 
-  pub reached-step : (i : ℕ) (map : List Float) (d : ℕ) (total : Float) (c : Closest) → Reached i map d total → c ≡ rule (pixelAt b i ⊕ pixelAt map i)
-      → Reached (i + 1) (diffused map i (pixelAt b i ⊕ pixelAt map i ⊖ c .value)) (setAt d i (c .index)) (total ⊕ squared (c .error))
-  unfolding ditherTo ditherStep
-  reached-step i map d total c r e = rw (add-one, e, r .map-is, r .indexes-is, r .total-is) (record { map-is = refl; indexes-is = refl; total-is = refl })
-
   -- the indexes are set in order, so the next one is unset
   abbrev answered : ℕ → ℕ
   answered k = rule (pixelAt b k ⊕ pixelAt (ditherTo rule b k .map) k) .index
@@ -73,8 +68,22 @@ module _ (rule : Float → Closest) (b : List Float) where
   indexes-filled zero = refl
   indexes-filled (suc n) = rw (indexes-filled n)
 
-  pub reached-unset : ((x : Float) → rule x .index < 8) → (i : ℕ) (map : List Float) (d : ℕ) (total : Float) → Reached i map d total → indexAt d i ≡ 0
-  reached-unset small i map d total r = rw (r .indexes-is, indexes-filled i) (filled-unset answered i (λ k h. small _) i (omega arith))
+module _ {rule : Float → Closest} {b : List Float} {i : ℕ} {map : List Float} {d : ℕ} {total : Float} (r : Reached rule b i map d total) where
+  pub reached-unset : ((x : Float) → rule x .index < 8) → indexAt d i ≡ 0
+  reached-unset small = rw (r .indexes-is, indexes-filled rule b i) (filled-unset (answered rule b) i (λ k h. small _) i (omega arith))
+
+  pub reached-step : {c : Closest} → c ≡ rule (pixelAt b i ⊕ pixelAt map i)
+      → Reached rule b (i + 1) (diffused map i (pixelAt b i ⊕ pixelAt map i ⊖ c .value)) (setAt d i (c .index)) (total ⊕ squared (c .error))
+  unfolding ditherTo ditherStep
+  reached-step e = rw (add-one, e, r .map-is, r .indexes-is, r .total-is) (record { map-is = refl; indexes-is = refl; total-is = refl })
+
+  -- for a rule whose error is, but for its sign, how far its value is off
+  pub reached-step-off : ((x : Float) → squared (rule x .error) ≡ squared (x ⊖ rule x .value)) → {c : Closest} → c ≡ rule (pixelAt b i ⊕ pixelAt map i)
+      → Reached rule b (i + 1) (diffused map i (pixelAt b i ⊕ pixelAt map i ⊖ c .value)) (setAt d i (c .index)) (total ⊕ squared (pixelAt b i ⊕ pixelAt map i ⊖ c .value))
+  reached-step-off same e = rw (e, ← same (pixelAt b i ⊕ pixelAt map i)) (reached-step refl)
+
+  pub reached-end : i ≡ 16 → record { indexes = record { «data» = d }; error = total } ≡ blockDither rule b
+  reached-end e = rw (r .indexes-is, r .total-is, e) refl
 
 -- ---- the table
 right : ℕ → Bool

@@ -1,12 +1,12 @@
-use mathlib.Core.Path.{_≡_, refl}
+use mathlib.Core.Path.{refl}
 use native.Mathlib.Omega.{arith}
 use Prim.Native.Nat.{_≤_, _-_}
 use borrow.Author.Needs.{needs}
 use Rattle.block.specs.Samples.{tabulate}
 use Rattle.palette.specs.Closest.{closest4}
-use Rattle.palette.proofs.ClosestLaws.{closest4-lt, indexed-is}
+use Rattle.palette.proofs.ClosestLaws.{closest4-lt}
 use Rattle.bcn_util.specs.Diffusion.{weights}
-use Rattle.bcn_util.proofs.DitherLaws.{Reached, reached-start, reached-step, reached-unset}
+use Rattle.bcn_util.proofs.DitherLaws.{Reached, reached-start, reached-unset, reached-step, reached-end}
 use Rattle.bcn_util.proofs.dither.dither4.Statement.{statement}
 use Rattle.bcn_util.proofs.dither.dither4.Tie as tie
 
@@ -39,11 +39,7 @@ closest-requires : tie.Need-closest-requires Inv-loop μ-loop
 closest-requires c κs = search needs
 
 set-requires : tie.Need-set-requires Inv-loop μ-loop
-set-requires c κs =
-    let h = c .before .before .before in
-    let p = h .before .before .args .p in
-    let b = h .before .before .args .b .now in
-    (search needs, rw (c .closest .ensures) (closest4-lt (p .colors) _), reached-unset (closest4 (p .colors)) b (closest4-lt (p .colors)) (h .loop .i) (h .loop .map) (h .loop .list .«data») (h .loop .total) (h .loop .inv .1))
+set-requires c κs = (search needs, rw (c .closest .ensures) (closest4-lt _ _), reached-unset (c .before .before .before .loop .inv .1) (closest4-lt _))
 
 diffuse-requires : tie.Need-diffuse-requires Inv-loop μ-loop
 unfolding weights
@@ -59,18 +55,10 @@ loop-again : tie.Need-loop-again Inv-loop μ-loop
 loop-again c =
     let s = c .before .before .before .before .before in
     let k = s .before in
-    let h = k .before .before .before in
-    let p = h .before .before .args .p in
-    let b = h .before .before .args .b .now in
-    let step = reached-step (closest4 (p .colors)) b (h .loop .i) (h .loop .map) (h .loop .list .«data») (h .loop .total) (k .closest .result) (h .loop .inv .1) (k .closest .ensures) in
-    (search needs, rw (c .diffuse .ensures, s .set .ensures) step)
+    (search needs, rw (c .diffuse .ensures, s .set .ensures) (reached-step (k .before .before .before .loop .inv .1) (k .closest .ensures)))
 
 returns : tie.Need-returns Inv-loop μ-loop
-returns c =
-    let h = c .before in
-    let e : h .loop .i ≡ 16 = omega arith in
-    let r = rw e at (h .loop .inv .1) in
-    indexed-is (h .loop .list) (h .loop .total) _ _ (r .indexes-is) (r .total-is)
+returns c = reached-end (c .before .loop .inv .1) (omega arith)
 
 pub dither4-spec : {M : Type 1} → statement M
 dither4-spec =

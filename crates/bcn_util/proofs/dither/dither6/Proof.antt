@@ -1,13 +1,12 @@
-use mathlib.Core.Path.{_≡_, refl}
+use mathlib.Core.Path.{refl}
 use native.Mathlib.Omega.{arith}
 use Prim.Native.Nat.{_≤_, _-_}
 use borrow.Author.Needs.{needs}
-use Rattle.floats.specs.Arithmetic.{_⊕_, _⊖_, squared}
-use Rattle.block.specs.Samples.{pixelAt, tabulate}
+use Rattle.block.specs.Samples.{tabulate}
 use Rattle.palette.specs.Closest.{closest6}
-use Rattle.palette.proofs.ClosestLaws.{closest6-lt, closest6-squared, indexed-is}
+use Rattle.palette.proofs.ClosestLaws.{closest6-lt, closest6-squared}
 use Rattle.bcn_util.specs.Diffusion.{weights}
-use Rattle.bcn_util.proofs.DitherLaws.{Reached, reached-start, reached-step, reached-unset}
+use Rattle.bcn_util.proofs.DitherLaws.{Reached, reached-start, reached-unset, reached-step-off, reached-end}
 use Rattle.bcn_util.proofs.dither.dither6.Statement.{statement}
 use Rattle.bcn_util.proofs.dither.dither6.Tie as tie
 
@@ -40,11 +39,7 @@ closest-requires : tie.Need-closest-requires Inv-loop μ-loop
 closest-requires c κs = search needs
 
 set-requires : tie.Need-set-requires Inv-loop μ-loop
-set-requires c κs =
-    let h = c .before .before .before .before in
-    let p = h .before .before .args .p in
-    let b = h .before .before .args .b .now in
-    (search needs, rw (c .closest .ensures) (closest6-lt p _), reached-unset (closest6 p) b (closest6-lt p) (h .loop .i) (h .loop .map) (h .loop .list .«data») (h .loop .total) (h .loop .inv .1))
+set-requires c κs = (search needs, rw (c .closest .ensures) (closest6-lt _ _), reached-unset (c .before .before .before .before .loop .inv .1) (closest6-lt _))
 
 diffuse-requires : tie.Need-diffuse-requires Inv-loop μ-loop
 unfolding weights
@@ -60,20 +55,10 @@ loop-again : tie.Need-loop-again Inv-loop μ-loop
 loop-again c =
     let s = c .before .before .before .before in
     let k = s .before in
-    let h = k .before .before .before .before in
-    let p = h .before .before .args .p in
-    let b = h .before .before .args .b .now in
-    let step = reached-step (closest6 p) b (h .loop .i) (h .loop .map) (h .loop .list .«data») (h .loop .total) (k .closest .result) (h .loop .inv .1) (k .closest .ensures) in
-    let pixel = pixelAt b (h .loop .i) ⊕ pixelAt (h .loop .map) (h .loop .i) in
-    let off : squared (k .closest .result .error) ≡ squared (pixel ⊖ k .closest .result .value) = rw (k .closest .ensures) (closest6-squared p pixel) in
-    (search needs, rw (c .diffuse .ensures, s .set .ensures, ← off) step)
+    (search needs, rw (c .diffuse .ensures, s .set .ensures) (reached-step-off (k .before .before .before .before .loop .inv .1) (closest6-squared _) (k .closest .ensures)))
 
 returns : tie.Need-returns Inv-loop μ-loop
-returns c =
-    let h = c .before in
-    let e : h .loop .i ≡ 16 = omega arith in
-    let r = rw e at (h .loop .inv .1) in
-    indexed-is (h .loop .list) (h .loop .total) _ _ (r .indexes-is) (r .total-is)
+returns c = reached-end (c .before .loop .inv .1) (omega arith)
 
 pub dither6-spec : {M : Type 1} → statement M
 dither6-spec =
