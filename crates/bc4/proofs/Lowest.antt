@@ -1,5 +1,5 @@
 -- Laws of the lowest refusal that applies. Assumes nothing.
-use mathlib.Core.Path.{_≡_, refl, sym, ap, subst}
+use mathlib.Core.Path.{_≡_, refl, sym, ap, subst, _∙_}
 use mathlib.Core.Bool.{Bool, true, false, not, cond}
 use mathlib.Core.List.{List, [], _∷_, _++_}
 use Prim.Native.Nat.{ℕ, _<_}
@@ -35,6 +35,10 @@ lowest-clear (c ∷ cs) e = go (c .applies) refl e (lowest-clear cs)
 -- two lengths that a check found equal
 pub same-of : (a b : ℕ) → not (eqb a b) ≡ false → a ≡ b
 same-of a b e = eqb→eq a b (subst T (sym (not-false (eqb a b) e)) tt)
+
+-- what a call knows of `checked` once it is told apart
+pub passed-clear : (cs : List Check) (checked : Checked) → checked ≡ lowest cs → checked ≡ Passed → Clear cs
+passed-clear cs checked e p = lowest-clear cs (sym e ∙ p)
 
 -- a number has one digit
 pub number-small : (q : Refusal) → numberOf q < 10

@@ -47,6 +47,14 @@ pub fn bytes(block: u64) -> [u8; 8]
     index_list::bytes(block)
 }
 
+// The samples of a block call that is not refused, as an array.
+fn sixteen(samples: &[f32]) -> [f32; 16]
+    requires { ⌜ length (now samples) ≡ 16 ⌝ }
+    ensures { λ r. ⌜ r ≡ now (samples .entry) ⌝ }
+{
+    tile::gather(samples, 4, 0, 0)
+}
+
 pub fn encode_block(samples: &[f32], o: Options) -> Encoded
     ensures { λ r. ⌜ r ≡ encodeAnswer (now (samples .entry)) o ⌝ }
 {
@@ -54,7 +62,7 @@ pub fn encode_block(samples: &[f32], o: Options) -> Encoded
     match checked {
         Checked::Refused(q) => Encoded::Refused(q),
         Checked::Passed => {
-            let b = tile::gather(samples, 4, 0, 0);
+            let b = sixteen(samples);
             Encoded::Block(encode::compress_bc4_block(&b, o))
         }
     }
@@ -82,7 +90,7 @@ pub fn block_error(samples: &[f32], encoded: &[u8], snorm: bool) -> Scored
     match checked {
         Checked::Refused(q) => Scored::Refused(q),
         Checked::Passed => {
-            let b = tile::gather(samples, 4, 0, 0);
+            let b = sixteen(samples);
             Scored::Error(decode::block_error(&b, index_list::from_bytes(encoded), snorm))
         }
     }
@@ -96,7 +104,7 @@ pub fn resend(samples: &[f32], held: &[u8], o: Options) -> Resent
     match checked {
         Checked::Refused(q) => Resent::Refused(q),
         Checked::Passed => {
-            let b = tile::gather(samples, 4, 0, 0);
+            let b = sixteen(samples);
             Resent::Block(better(&b, index_list::from_bytes(held), o))
         }
     }

@@ -7,7 +7,7 @@ use borrow.Author.Tests.{ltb-false}
 use Rattle.tile.specs.Place.{encodedLength}
 use Rattle.tile.proofs.Places.{size-good, rows-samples, rows-length, size-small}
 use Rattle.bc4.specs.Calls.{tiledOn, outAfter}
-use Rattle.bc4.proofs.Lowest.{lowest-clear, same-of}
+use Rattle.bc4.proofs.Lowest.{lowest-clear, passed-clear, same-of}
 use borrow.Author.Needs.{needs}
 use Rattle.bc4.proofs.encode_tile.Statement.{statement}
 use Rattle.bc4.proofs.encode_tile.Tie as tie
@@ -24,13 +24,13 @@ enum-told c = search needs
 mul-area : tie.Need-mul-area
 mul-area c =
     let start = c .before .before .before .before .before in
-    let clear = lowest-clear _ (sym (c .before .before .tile .ensures) ∙ c .enum-told .given .1) in
+    let clear = passed-clear _ _ (c .before .before .tile .ensures) (c .enum-told .given .1) in
     let small = size-small (start .args .width) (start .args .height) (clear .0) in
     search needs
 
 encode-rows-requires : tie.Need-encode-rows-requires
 encode-rows-requires c κs =
-    let clear = lowest-clear _ (sym (c .before .before .before .tile .ensures) ∙ c .before .enum-told .given .1) in
+    let clear = passed-clear _ _ (c .before .before .before .tile .ensures) (c .before .enum-told .given .1) in
     let start = c .before .before .before .before .before .before in
     let size = size-good (start .args .width) (start .args .height) (clear .0) in
     let samples = rows-samples (start .args .width) (start .args .height) (clear .0) in
