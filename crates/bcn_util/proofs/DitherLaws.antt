@@ -55,10 +55,6 @@ module _ (rule : Float → Closest) (b : List Float) where
     pub indexes-is : d ≡ ditherTo rule b i .indexes
     pub total-is : total ≡ ditherTo rule b i .total
 
-  pub reached-start : (d : ℕ) → d ≡ 0 → Reached 0 (perPixel (λ i. f0)) d f0
-  unfolding ditherTo
-  reached-start d e = record { map-is = refl; indexes-is = e; total-is = refl }
-
   -- the indexes are set in order, so the next one is unset
   abbrev answered : ℕ → ℕ
   answered k = rule (pixelAt b k ⊕ pixelAt (ditherTo rule b k .map) k) .index
@@ -67,6 +63,10 @@ module _ (rule : Float → Closest) (b : List Float) where
   unfolding ditherTo ditherStep filledTo
   indexes-filled zero = refl
   indexes-filled (suc n) = rw (indexes-filled n)
+
+pub reached-start : {rule : Float → Closest} {b : List Float} {d : ℕ} → d ≡ 0 → Reached rule b 0 (perPixel (λ i. f0)) d f0
+unfolding ditherTo
+reached-start e = record { map-is = refl; indexes-is = e; total-is = refl }
 
 module _ {rule : Float → Closest} {b : List Float} {i : ℕ} {map : List Float} {d : ℕ} {total : Float} (r : Reached rule b i map d total) where
   pub reached-unset : ((x : Float) → rule x .index < 8) → indexAt d i ≡ 0

@@ -21,7 +21,7 @@ new-empty-requires c κs = search needs
 
 loop-holds : tie.Need-loop-holds Inv-loop μ-loop
 unfolding tabulate
-loop-holds c = (search needs, reached-start _ _ (c .new-empty .result .«data») (c .new-empty .ensures))
+loop-holds c = (search needs, reached-start (c .new-empty .ensures))
 
 mul-pixel : tie.Need-mul-pixel Inv-loop μ-loop
 mul-pixel c = search needs
