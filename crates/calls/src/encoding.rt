@@ -36,8 +36,8 @@ fn valued(what: Sixteen, dither: bool, snorm: bool, search: bool) {
     show::text(b"encode ");
     show::samples(what);
     show::format(snorm);
-    show::dither(dither);
-    show::search(search);
+    show::option(dither, b", dither");
+    show::option(search, b", search");
     answer(&s, given::options(dither, snorm, search));
 }
 

@@ -28,9 +28,7 @@ fn counted(count: usize, length: usize, first: usize, second: usize) {
     let s = given::samples(first, second);
     let b = given::bytes();
     show::text(b"error of ");
-    show::sample_count(count);
-    show::text(b" and ");
-    show::byte_count(length);
+    show::counts(count, b" and ", length);
     show::nans(first, second);
     answer(
         given::first_samples(&s, count),

@@ -35,10 +35,8 @@ fn counted(count: usize, length: usize, dither: bool, nan: usize) {
     let s = given::samples(nan, NONE);
     let b = given::bytes();
     show::text(b"resend ");
-    show::sample_count(count);
-    show::text(b" over ");
-    show::byte_count(length);
-    show::dither(dither);
+    show::counts(count, b" over ", length);
+    show::option(dither, b", dither");
     show::nans(nan, NONE);
     answer(
         given::first_samples(&s, count),

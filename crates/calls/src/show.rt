@@ -27,6 +27,12 @@ pub fn byte_count(n: usize) {
     text(b" bytes");
 }
 
+pub fn counts(samples: usize, joint: &[u8], bytes: usize) {
+    sample_count(samples);
+    text(joint);
+    byte_count(bytes);
+}
+
 fn wide(b: u8) -> u64
     ensures { λ r. ⌜ r < 256 ⌝ }
 {
@@ -106,15 +112,9 @@ pub fn format(snorm: bool) {
     }
 }
 
-pub fn dither(set: bool) {
+pub fn option(set: bool, name: &[u8]) {
     if set {
-        text(b", dither");
-    }
-}
-
-pub fn search(set: bool) {
-    if set {
-        text(b", search");
+        text(name);
     }
 }
 

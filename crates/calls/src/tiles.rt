@@ -58,9 +58,7 @@ fn tiled(width: usize, height: usize, count: usize, room: usize, first: usize, s
     show::text(b"tile ");
     size(width, height);
     show::text(b", ");
-    show::sample_count(count);
-    show::text(b" into ");
-    show::byte_count(room);
+    show::counts(count, b" into ", room);
     show::nans(first, second);
     into(
         given::first_samples(&s, count),
@@ -125,6 +123,14 @@ fn more_together() {
     tiled(8, 6, 47, 23, 3, NONE);
 }
 
+fn beside_the_block(out: &[u8], samples: &[f32], snorm: bool) {
+    show::text(b" ");
+    show::bytes(out);
+    show::text(b", block ");
+    encoding::shown(bc4::encode_block(samples, given::options(false, snorm, false)));
+    show::text(b"\n");
+}
+
 // Width 4, height 4: the bytes of the block call.
 fn one_block(snorm: bool) {
     let s = given::block(Sixteen::Slopes);
@@ -132,11 +138,7 @@ fn one_block(snorm: bool) {
     show::text(b"tile 4 by 4");
     show::format(snorm);
     answer(&s, 4, 4, snorm, &mut out);
-    show::text(b" ");
-    show::bytes(&out);
-    show::text(b", block ");
-    encoding::shown(bc4::encode_block(&s, given::options(false, snorm, false)));
-    show::text(b"\n");
+    beside_the_block(&out, &s, snorm);
 }
 
 pub fn cases() {
