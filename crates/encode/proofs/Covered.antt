@@ -27,7 +27,7 @@ use Rattle.compress.specs.Coding.{ended6, ended4}
 use Rattle.encode.specs.Search.{pairTried, firstMax, minsTried, minLimit, leastMax, searched}
 use Rattle.encode.specs.Covered.{Covered, endsOf, pairError, pairBytes, Written}
 use Rattle.encode.specs.Encoder.{searches, encoded, compressed}
-use Rattle.encode.proofs.EveryPair.{NotBelow, kept-below, kept-own, kept-one, candidate, pair-is, mins-keep, mins-reach, first-le, first-from}
+use Rattle.encode.proofs.EveryPair.{NotBelow, kept-one, candidate, pair-is, mins-keep, mins-below, first-le, first-from}
 
 -- ---- at least one pair is covered: (0, 255)
 scaled : (x : Float) → x ⊗ f255 ≡ f255 ⊗ x
@@ -71,16 +71,7 @@ module _ (b : List Float) (u : InUnit b) where
   found = minsTried b (leastMax (smallest b)) start (minLimit (largest b))
 
   found-below : (kind : Kind) (min max : ℕ) → Covered b min max → NotBelow (pairError kind b min max) found
-  found-below kind min max c =
-      mins-reach b (NotBelow (pairError kind b min max)) stays min max (own kind) start (leastMax (smallest b)) (minLimit (largest b))
-      (c .min-below) (first-le _ min max (c .max-from) (c .apart)) (c .max-to)
-    where
-      stays : (h : Coded) (i j : ℕ) → NotBelow (pairError kind b min max) h → NotBelow (pairError kind b min max) (pairTried b h i j)
-      stays h i j p = rw (pair-is b h i j) (kept-below _ _ (candidate b Four i j) (kept-below _ h (candidate b Six i j) p))
-
-      own : (kind : Kind) (h : Coded) → NotBelow (pairError kind b min max) (pairTried b h min max)
-      own Six h = rw (pair-is b h min max) (kept-below _ _ (candidate b Four min max) (kept-own h (candidate b Six min max)))
-      own Four h = rw (pair-is b h min max) (kept-own _ (candidate b Four min max))
+  found-below kind min max c = mins-below b kind min max start _ _ (c .min-below) (first-le _ min max (c .max-from) (c .apart)) (c .max-to)
 
   -- of a covered pair, with its error
   abbrev Found : Coded → Type 0

@@ -1,5 +1,5 @@
--- Every pair of the search: one pair is two candidates, what each pair keeps is kept by the loops, and what one brings about holds in the end.
--- Assumes nothing.
+-- Every pair of the search: one pair is two candidates, what each pair keeps is kept by the loops, of one search or between two, and what one brings
+-- about holds in the end. Assumes nothing.
 use mathlib.Core.Path.{_≡_, refl}
 use mathlib.Core.Logic.{⊎-elim, dite}
 use mathlib.Core.Bool.{Bool, true, false, cond}
@@ -104,3 +104,27 @@ module _ (b : List Float) where
     mins-reach best least (suc n) h l m =
         dite (decLt min n) (λ k. maxes-keep P n _ _ (λ g max i j. keep g n max) _ (mins-reach best least n k l m))
         (λ k. let e : n ≡ min = omega arith in rw e (maxes-reach (firstMax least min) _ _ l (omega arith)))
+
+  -- so no error of a pair that was tried is below what is held
+  pub mins-below : (kind : Kind) (min max : ℕ) (best : Coded) (least n : ℕ) → min < n → firstMax least min ≤ max → max ≤ 255
+      → NotBelow (pairError kind b min max) (minsTried b least best n)
+  mins-below kind min max = mins-reach (NotBelow (pairError kind b min max)) stays min max (own kind)
+    where
+      stays : (h : Coded) (i j : ℕ) → NotBelow (pairError kind b min max) h → NotBelow (pairError kind b min max) (pairTried b h i j)
+      stays h i j p = rw (pair-is h i j) (kept-below _ _ (candidate Four i j) (kept-below _ h (candidate Six i j) p))
+
+      own : (kind : Kind) (h : Coded) → NotBelow (pairError kind b min max) (pairTried b h min max)
+      own Six h = rw (pair-is h min max) (kept-below _ _ (candidate Four min max) (kept-own h (candidate Six min max)))
+      own Four h = rw (pair-is h min max) (kept-own _ (candidate Four min max))
+
+  -- ---- two searches side by side: what each pair keeps between them is kept
+  module _ (R : Coded → Coded → Type 0) (keep : (g h : Coded) (min max : ℕ) → R g h → R (pairTried b g min max) (pairTried b h min max)) where
+    maxes-both : (g h : Coded) (min first n : ℕ) → R g h → R (maxesTried b g min first n) (maxesTried b h min first n)
+    unfolding maxesTried
+    maxes-both g h min first zero r = r
+    maxes-both g h min first (suc n) r = keep _ _ min (first + n) (maxes-both g h min first n r)
+
+    pub mins-both : (g h : Coded) (least n : ℕ) → R g h → R (minsTried b least g n) (minsTried b least h n)
+    unfolding minsTried
+    mins-both g h least zero r = r
+    mins-both g h least (suc n) r = maxes-both _ _ n (firstMax least n) _ (mins-both g h least n r)

@@ -3,4 +3,6 @@ pub mod Middle
 pub mod Between
 pub mod EveryPair
 pub mod PassedOver
+pub mod FirstRow
+pub mod Start
 pub mod Covered

@@ -1,15 +1,21 @@
--- A floor of the palette errors of many pairs at once, by which the search passes pairs over. The values of a pair's palettes lie between its ends,
--- but for rounding, and of four values two are 0 and 1; so a sample beyond the ends is at least so far from all of them. `min-floor` and `max-floor`
--- in proofs/ say that no error is below its floor.
+-- Floors of palette errors, by which the search passes pairs over. For many pairs at once: the values of a pair's palettes lie between its ends, but
+-- for rounding, and of four values two are 0 and 1; so a sample beyond the ends is at least so far from all of them. For one pair: a part of its
+-- errors. `min-floor`, `max-floor` and `pair-row` in proofs/ say that no error is below its floor.
+use mathlib.Core.Path.{_≡_}
 use mathlib.Core.List.{List}
-use mathlib.Core.Bool.{true, false, cond}
-use Prim.Native.Nat.{ℕ}
-use lib.Ieee.{Float, inf, lt}
+use mathlib.Core.Bool.{true, false, cond, _||_}
+use Prim.Native.Nat.{ℕ, _<_}
+use lib.ListN.{length, getD}
+use lib.Ieee.{Float, nan, inf, lt, ne}
 use Rattle.floats.specs.Arithmetic.{_⊕_, _⊖_, squared, bits, f0, f1}
 use Rattle.floats.specs.Helpers.{laneMin}
 use Rattle.values.specs.Values.{valueOf}
 use Rattle.block.specs.Samples.{pixelAt, tabulate, perPixel}
 use Rattle.block.specs.Orders.{sumInOrder}
+use Rattle.palette.specs.declared.Kind.{Kind}
+use Rattle.palette.specs.declared.Kind.the-variants.{Six, Four}
+use Rattle.palette.specs.PaletteError.{rowError}
+use Rattle.encode.specs.Covered.{pairError}
 
 -- 1 / 4,194,304: more than what rounding moves a value beyond the ends
 abbrev pub margin : Float
@@ -35,3 +41,15 @@ maxFloor b max = floorOf b (inf true) (valueOf false max ⊕ margin)
 
 abbrev pub maxFloors : List Float → List Float
 maxFloors b = tabulate (maxFloor b) 0 256
+
+-- for one pair, of its ends' floats: what the first row adds, in the mode where that is less; of a NaN a NaN
+unfoldable pub rowFloor : List Float → Float → Float → Float
+rowFloor b low high =
+    let six = rowError Six b high low in
+    let four = rowError Four b low high in
+    cond (lt six four || ne six six) six four
+
+-- a floor for each pair with this min, by its max
+pub record Floors (b : List Float) (min : ℕ) (floors : List Float) : Type 0 where
+  pub size : length floors ≡ 256
+  pub each : (max : ℕ) → min < max → max < 256 → (kind : Kind) → lt (pairError kind b min max) (getD floors max nan) ≡ false

@@ -1,11 +1,13 @@
 // reference_brute_force. Pairs that cannot be below what is held are passed over, by floors of their errors: the answer is that of all pairs tried.
 ghost use mathlib.Core.Path.{_≡_};
-ghost use mathlib.Core.Bool.{false};
+ghost use mathlib.Core.Logic.{_⊎_};
+ghost use mathlib.Core.Bool.{true, false};
 ghost use Prim.Native.Nat.{_<_, _≤_, _-_};
-ghost use lib.Ieee.{lt};
+ghost use lib.Ieee.{inf, lt};
 ghost use Rattle.palette.specs.declared.Kind.{Kind as KindOf};
+ghost use Rattle.palette.specs.declared.Kind.the-variants.{Six};
 ghost use Rattle.encode.specs.Covered.{pairError};
-ghost use Rattle.encode.specs.Floor.{maxFloors};
+ghost use Rattle.encode.specs.Floor.{maxFloors, Floors};
 ghost use Rattle.encode.specs.Search.{tried6 as tried6Of, tried4 as tried4Of, pairTried, maxesTried, minsTried, firstMax, minLimit, leastMax, searched};
 use crate::floor;
 use compress::coding::Coded;
@@ -54,7 +56,7 @@ fn pair_tried(b: &[f32; 16], floor: f32, best: Coded, min: u8, max: u8) -> Coded
 }
 
 fn maxes_tried(b: &[f32; 16], floors: &[f32; 256], start: Coded, min: u8, first: u32) -> Coded
-    requires { ⌜ (now floors ≡ maxFloors (now b)) × (min < first) × (first ≤ 256) ⌝ }
+    requires { ⌜ Floors (now b) min (now floors) × (min < first) × (first ≤ 256) ⌝ }
     ensures { λ r. ⌜ r ≡ maxesTried (now (b .entry)) start min first (256 - first) ⌝ }
 {
     let mut best = start;
@@ -72,7 +74,8 @@ fn min_tried(b: &[f32; 16], floors: &[f32; 256], best: Coded, min: u8, first: u3
     if floor::min_floor(b, min) >= best.error {
         return best;
     }
-    maxes_tried(b, floors, best, min, first)
+    let raised = floor::raised(b, floors, best.error, min, first);
+    maxes_tried(b, &raised, best, min, first)
 }
 
 fn first_max(least: u32, min: u32) -> u32
@@ -96,6 +99,22 @@ fn mins_tried(b: &[f32; 16], floors: &[f32; 256], least: u32, start: Coded, limi
     best
 }
 
+// What the search starts from: just above the error of one pair that it tries, about as wide as the samples. A start at infinity leads to the same
+// answer, and holds for long what passes little over. The test alone makes sure that it is above; how far is only a matter of time.
+fn start_error(b: &[f32; 16], min: u8, max: u8) -> f32
+    ensures { λ r. ⌜ (r ≡ inf false) ⊎ ((min < max) × (lt (pairError Six (now (b .entry)) min max) r ≡ true)) ⌝ }
+{
+    let e = EndPoints::new_inter6_unorm(max, min);
+    let error = palette::palette_error(Kind::Six, b, e.c0_f, e.c1_f);
+    let above = error * 1.0001 + 0.0000000001;
+    if min < max {
+        if error < above {
+            return above;
+        }
+    }
+    f32::from_bits(0x7f80_0000)
+}
+
 pub fn reference_brute_force(b: &[f32; 16], p: Pair) -> u64
     ensures { λ r. ⌜ r ≡ searched (now (b .entry)) p ⌝ }
 {
@@ -103,7 +122,7 @@ pub fn reference_brute_force(b: &[f32; 16], p: Pair) -> u64
     let least = floats::byte_of(p.0 * 255.0 - 1.0);
     let start = Coded {
         bytes: 0,
-        error: f32::from_bits(0x7f80_0000),
+        error: start_error(b, least, limit),
     };
     let floors = floor::max_floors(b);
     mins_tried(b, &floors, least as u32, start, limit as u32).bytes

@@ -1,20 +1,26 @@
--- A floor of the palette error: for each sample a value that none of its eight squared distances is below, and these summed in the error's order.
--- It holds with a NaN anywhere. Assumes nothing.
-use mathlib.Core.Path.{_≡_}
+-- Floors of the palette error: for each sample a value that none of its eight squared distances is below, and these summed in the error's order; and
+-- what the first row adds. They hold with a NaN anywhere. Assumes nothing.
+use mathlib.Core.Path.{_≡_, refl, subst}
 use mathlib.Core.Bool.{Bool, true, false, cond}
 use mathlib.Core.List.{List}
-use Prim.Native.Nat.{ℕ, zero, suc, _<_}
+use Prim.Native.Nat.{ℕ, zero, suc, _+_, _*_, _<_}
+use native.Mathlib.Nat.{mul-one}
 use native.Mathlib.Omega.{arith}
-use lib.Ieee.{Float, lt}
-use Rattle.floats.specs.Arithmetic.{_⊕_, _⊖_, squared}
+use lib.Dec.{T}
+use lib.Ieee.{Float, nan, inf, fin, binary32, up, down, sum, add, lt, fits, ofBits}
+use lib.Ieee.Fits.{mul-fits}
+use Rattle.floats.specs.Arithmetic.{_⊕_, _⊖_, squared, f0}
 use Rattle.floats.specs.Helpers.{laneMin}
-use Rattle.floats.proofs.Squares.{Plain, squared-plain, add-plain}
+use Rattle.floats.proofs.Tests.{clash}
+use Rattle.floats.proofs.Order.{lt-irrefl}
+use Rattle.floats.proofs.Exactly.{round-fixed}
+use Rattle.floats.proofs.Squares.{Plain, squared-plain, plain-not-below, add-plain}
 use Rattle.floats.proofs.NotBelow.{add-not-below}
 use Rattle.block.specs.Samples.{pixelAt, tabulate, perPixel}
 use Rattle.block.specs.Orders.{downLane, laneSum, sumInOrder}
 use Rattle.palette.specs.declared.Kind.{Kind}
 use Rattle.palette.specs.Palettes.{entry, valuesOf}
-use Rattle.palette.specs.PaletteError.{leastTo, nearerSquare, leastSquareTo, miss, paletteError}
+use Rattle.palette.specs.PaletteError.{leastTo, nearerSquare, leastSquareTo, miss, paletteError, rowSum, rowError}
 use Rattle.palette.proofs.LeastSquare.{miss-is}
 
 -- ---- one sample
@@ -75,3 +81,45 @@ error-floor kind b c0 c1 floor plain each =
       over = miss-floor (valuesOf kind c0 c1) (pixelAt b i) (floor i) (λ k l. each i k h l);
     })
     .over
+
+-- ---- a part of the sum. What a float holds stays as it is with 0 added,
+add-0 : (x : Float) → T (fits binary32 x) → Plain x → x ⊕ f0 ≡ x
+add-0 nan p s = unfold add in refl
+add-0 (inf true) p s = clash refl s
+add-0 (inf false) p s = unfold add ofBits in refl
+add-0 (fin true m e) p s = clash refl s
+add-0 (fin false m e) p s = unfold add sum ofBits in rw (left (m * up e) (down e), mul-one (down e)) (round-fixed m e p)
+  where
+    left : (a d : ℕ) → a * 1 + 0 * 1 * d ≡ a
+    left a d = omega arith
+
+-- so that a sum that grows is not below where it began
+grown : (x y z : Float) → T (fits binary32 y) → Over x y → Plain z → Over (x ⊕ z) y
+grown x y z f o p = record {
+  left = add-plain x z (o .left) p;
+  right = o .right;
+  over = subst (λ (w : Float). lt (x ⊕ z) w ≡ false) (add-0 y f (o .right))
+      (add-not-below x y z f0 (o .left) (o .right) p (unfold ofBits in refl) (o .over) (plain-not-below z p));
+}
+
+module _ (v b : List Float) where
+  abbrev part : ℕ → Float
+  part i = miss v (pixelAt b i)
+
+  held : (i : ℕ) → T (fits binary32 (part i))
+  unfolding miss
+  held i = mul-fits binary32 _ _
+
+  lane : (i j k l : ℕ) → Over (part i ⊕ part j ⊕ part k ⊕ part l) (part i)
+  lane i j k l =
+      let plain : (n : ℕ) → Plain (part n) = λ n. miss-plain v (pixelAt b n) in
+      let one : Over (part i) (part i) = record { left = plain i; right = plain i; over = lt-irrefl (part i) } in
+      grown _ (part i) (part l) (held i) (grown _ (part i) (part k) (held i) (grown _ (part i) (part j) (held i) one (plain j)) (plain k)) (plain l)
+
+  row-over : Over (sumInOrder (perPixel part)) (rowSum v b)
+  unfolding rowSum sumInOrder laneSum downLane tabulate
+  row-over = four _ _ _ _ _ _ _ _ (lane 0 4 8 12) (lane 1 5 9 13) (lane 2 6 10 14) (lane 3 7 11 15)
+
+pub row-floor : (kind : Kind) (b : List Float) (c0 c1 : Float) → lt (paletteError kind b c0 c1) (rowError kind b c0 c1) ≡ false
+unfolding paletteError
+row-floor kind b c0 c1 = row-over (valuesOf kind c0 c1) b .over

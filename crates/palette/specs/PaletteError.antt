@@ -4,7 +4,7 @@
 use mathlib.Core.List.{List}
 use Prim.Native.Nat.{ℕ, zero, suc}
 use lib.Ieee.{Float}
-use Rattle.floats.specs.Arithmetic.{_⊖_, squared}
+use Rattle.floats.specs.Arithmetic.{_⊕_, _⊖_, squared}
 use Rattle.floats.specs.Helpers.{absOf, laneMin}
 use Rattle.block.specs.Samples.{pixelAt, perPixel}
 use Rattle.block.specs.Orders.{sumInOrder}
@@ -33,3 +33,10 @@ miss v p = squared (leastTo v p 7)
 
 unfoldable pub paletteError : Kind → List Float → Float → Float → Float
 paletteError kind b c0 c1 = sumInOrder (perPixel (λ i. miss (valuesOf kind c0 c1) (pixelAt b i)))
+
+-- the first row's part of it: no palette error is below this (`row-floor` in proofs/)
+unfoldable pub rowSum : List Float → List Float → Float
+rowSum v b = miss v (pixelAt b 0) ⊕ miss v (pixelAt b 1) ⊕ miss v (pixelAt b 2) ⊕ miss v (pixelAt b 3)
+
+abbrev pub rowError : Kind → List Float → Float → Float → Float
+rowError kind b c0 c1 = rowSum (valuesOf kind c0 c1) b

@@ -1,13 +1,9 @@
 use mathlib.Core.Path.{_≡_, sym}
 use Prim.Native.Nat.{_≤_, _-_}
 use native.Mathlib.Omega.{arith}
-use lib.Ieee.{nan}
 use borrow.Author.Needs.{needs}
-use Rattle.block.proofs.Fill.{getD-tabulate}
 use Rattle.encode.specs.Search.{maxesTried}
-use Rattle.encode.specs.Floor.{maxFloor}
 use Rattle.encode.proofs.Steps.{maxes-none, maxes-more}
-use Rattle.encode.proofs.PassedOver.{max-floor}
 use Rattle.encode.proofs.search.maxes_tried.Statement.{statement}
 use Rattle.encode.proofs.search.maxes_tried.Tie as tie
 
@@ -35,9 +31,7 @@ cast-pair-tried c = search needs
 pair-tried-requires : tie.Need-pair-tried-requires Inv-loop μ-loop
 pair-tried-requires c κs =
     let h = c .before .before in
-    let a = h .before .args in
-    λ kind. rw (h .before .pre .0, getD-tabulate (maxFloor (a .b .now)) nan 256 (h .loop .max) (c .before .loop-test .taken))
-    (max-floor (a .b .now) (a .min) (h .loop .max) (omega arith) (omega arith) kind)
+    h .before .pre .0 .each (h .loop .max) (omega arith) (c .before .loop-test .taken)
 
 add-max : tie.Need-add-max Inv-loop μ-loop
 add-max c = search needs

@@ -16,6 +16,9 @@ returns c =
     let a = h .args in
     sym (maxes-passed (a .b .now) (a .best) (a .min) (a .first) (256 - a .first) (h .pre .1) (omega arith) (rw (← k .min-floor .ensures) (c .if1 .taken)))
 
+raised-requires : tie.Need-raised-requires
+raised-requires c κs = search needs
+
 maxes-tried-requires : tie.Need-maxes-tried-requires
 maxes-tried-requires c κs = search needs
 
@@ -23,4 +26,5 @@ returns-2 : tie.Need-returns-2
 returns-2 c = search needs
 
 pub min-tried-spec : {M : Type 1} → statement M
-min-tried-spec = tie.close (tie.spec min-floor-requires returns maxes-tried-requires returns-2)
+min-tried-spec =
+    tie.close (tie.spec min-floor-requires returns raised-requires maxes-tried-requires returns-2)

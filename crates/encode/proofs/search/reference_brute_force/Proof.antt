@@ -1,4 +1,6 @@
+use native.Mathlib.Omega.{arith}
 use Rattle.encode.specs.Search.{searched}
+use Rattle.encode.proofs.Start.{started}
 use borrow.Author.Needs.{needs}
 use Rattle.encode.proofs.search.reference_brute_force.Statement.{statement}
 use Rattle.encode.proofs.search.reference_brute_force.Tie as tie
@@ -9,9 +11,8 @@ byte-of-requires c κs = search needs
 byte-of-requires-2 : tie.Need-byte-of-requires-2
 byte-of-requires-2 c κs = search needs
 
-float-from-bits-t7 : tie.Need-float-from-bits-t7
-unfolding lib.Ieee.nanBits
-float-from-bits-t7 c = search needs
+start-error-requires : tie.Need-start-error-requires
+start-error-requires c κs = search needs
 
 max-floors-requires : tie.Need-max-floors-requires
 max-floors-requires c κs = search needs
@@ -26,10 +27,11 @@ mins-tried-requires : tie.Need-mins-tried-requires
 mins-tried-requires c κs = search needs
 
 returns : tie.Need-returns
-unfolding searched lib.Ieee.ofBits
+unfolding searched
 returns c =
-    let k = c .before .before .before in
-    rw (c .mins-tried .ensures, k .byte-of2 .ensures, k .before .before .byte-of .ensures)
+    let s = c .before .before .before in
+    let k = s .before in
+    rw (c .mins-tried .ensures, started _ _ _ _ (omega arith) (s .start-error .ensures), k .byte-of2 .ensures, k .before .before .byte-of .ensures)
 
 pub reference-brute-force-spec : {M : Type 1} → statement M
 reference-brute-force-spec =
@@ -37,7 +39,7 @@ reference-brute-force-spec =
     (tie.spec
     byte-of-requires
     byte-of-requires-2
-    float-from-bits-t7
+    start-error-requires
     max-floors-requires
     cast-mins-tried
     cast-mins-tried-2
