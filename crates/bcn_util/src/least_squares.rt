@@ -21,7 +21,7 @@ pub enum Inverse {
     TooSmall,
 }
 
-fn from_d(a: f32, b: f32, c: f32) -> Inverse
+pub fn from_d(a: f32, b: f32, c: f32) -> Inverse
     ensures { λ r. ⌜ r ≡ fromD a b c ⌝ }
 {
     let det = a * c - b * b;
@@ -40,7 +40,7 @@ fn from_d(a: f32, b: f32, c: f32) -> Inverse
     })
 }
 
-fn or_mean(i: Inverse) -> WeightMatrix
+pub fn or_mean(i: Inverse) -> WeightMatrix
     ensures { λ r. ⌜ r ≡ orMean i ⌝ }
 {
     match i {

@@ -1,4 +1,5 @@
 pub mod Coding
 pub mod Inter6
+pub mod Fit
 pub mod Sorted
 pub mod Inter4

@@ -1,25 +1,16 @@
 // compress_inter6.
 ghost use mathlib.Core.Path.{_≡_};
-ghost use Rattle.compress.specs.Inter6.{fitted as fittedOf, compressedFrom, nudged as nudgedOf, nudgedPair, five as fiveOf, smaller as smallerOf, compressInter6};
+ghost use Rattle.compress.specs.Inter6.{compressedFrom, nudged as nudgedOf, nudgedPair, five as fiveOf, smaller as smallerOf, compressInter6};
 use crate::coding::Coded;
 use floats::Pair;
 use palette::Kind;
-use palette::inter6::Inter6Palette;
 use refine::options::Options;
-
-fn fitted(b: &[f32; 16], p: Pair) -> Pair
-    ensures { λ r. ⌜ r ≡ fittedOf (now (b .entry)) p ⌝ }
-{
-    let w = Inter6Palette::new(p.0, p.1).block_closest_weights(b);
-    let q = bcn_util::least_squares::least_squares(b, &w);
-    Pair(floats::clamp(q.0), floats::clamp(q.1))
-}
 
 // compress_inter6_impl
 fn compressed_from(b: &[f32; 16], p: Pair, o: Options) -> Coded
     ensures { λ r. ⌜ r ≡ compressedFrom (now (b .entry)) o p ⌝ }
 {
-    let fit = fitted(b, fitted(b, p));
+    let fit = crate::fit::fitted_twice(b, p);
     let ends = refine::refine_endpoints(Kind::Six, b, fit.0, fit.1, o);
     crate::coding::coded6(b, o.snorm, o.dither, ends)
 }

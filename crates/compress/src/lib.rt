@@ -1,5 +1,6 @@
 // bc4.rs: the two compressions of a block.
 pub mod coding;
+mod fit;
 pub mod inter4;
 pub mod inter6;
 pub mod sorted;

@@ -24,7 +24,7 @@ use Rattle.palette.specs.declared.Indexed.{Indexed}
 use Rattle.palette.specs.declared.inter4.Nearest.{Nearest}
 use Rattle.palette.specs.declared.inter6.Inter6Palette.{Inter6Palette}
 use Rattle.palette.specs.Palettes.{entry, seventh, indexMap, blended}
-use Rattle.palette.specs.Closest.{blend, blend7, weight, closest6, defaultOf, nearerOf, nearestTo, closest4}
+use Rattle.palette.specs.Closest.{blend, blend7, weight, cappedWeight, closest6, defaultOf, nearerOf, nearestTo, closest4}
 
 -- ---- four values
 -- a choice between two records, field by field as the code makes it
@@ -119,9 +119,6 @@ unfolding closest6
 closest6-squared p x = square-abs (x ⊖ blended p (blend7 p x))
 
 -- ---- the weight, where the blend is above -1
-abbrev pub cappedWeight : Inter6Palette → Float → Float
-cappedWeight p x = f1 ⊖ whole (blend7 p x) ⊗ seventh
-
 pub weight-above : (p : Inter6Palette) (x : Float) → lt (neg f1) (blend p x) ≡ true → cappedWeight p x ≡ weight p x
 unfolding weight
 weight-above p x h =

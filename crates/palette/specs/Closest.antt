@@ -4,7 +4,7 @@ use mathlib.Core.Bool.{cond}
 use Prim.Native.Nat.{ℕ, zero, suc}
 use lib.ListN.{getD}
 use lib.Ieee.{Float, lt, le}
-use Rattle.floats.specs.Arithmetic.{_⊕_, _⊖_, _⊗_, half, f1}
+use Rattle.floats.specs.Arithmetic.{_⊕_, _⊖_, _⊗_, whole, half, f1}
 use Rattle.floats.specs.Helpers.{absOf, laneMin, truncOf, byteUpTo7}
 use Rattle.block.specs.Samples.{pixelAt, perPixel}
 use Rattle.block.specs.Orders.{sumOfSquares}
@@ -34,6 +34,10 @@ closest6 p x = record {
 -- the weight of c1's end for the least squares. Only 7 caps the blend: below 0 it is left as it is, and the weight is over 1.
 unfoldable pub weight : Inter6Palette → Float → Float
 weight p x = f1 ⊖ truncOf (laneMin (blend p x) f7) ⊗ seventh
+
+-- the same where the blend is above -1, by the cut of `closest` (`weight-above` in proofs/)
+abbrev pub cappedWeight : Inter6Palette → Float → Float
+cappedWeight p x = f1 ⊖ whole (blend7 p x) ⊗ seventh
 
 unfoldable pub weights : Inter6Palette → List Float → List Float
 weights p b = perPixel (λ i. weight p (pixelAt b i))

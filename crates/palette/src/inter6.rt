@@ -113,21 +113,12 @@ impl Inter6Palette {
         1.0 - floats::trunc(blend) * F1
     }
 
-    // Above -1 a blend is cut by the capped cast. A lower one is rare, and so is a NaN: for those all sixteen are weighed anew.
     pub fn block_closest_weights(self, b: &[f32; 16]) -> [f32; 16]
         ensures { λ r. ⌜ r ≡ weights self (now (b .entry)) ⌝ }
     {
         let mut w = [0.0f32; 16];
-        let mut below = 0u32;
         for i in 0..16usize {
-            let blend = b[i] * self.factor1 + self.add1;
-            below += floats::one_if(!(blend > -1.0));
-            w[i] = 1.0 - floats::up_to_7(blend) * F1;
-        }
-        if below > 0 {
-            for i in 0..16usize {
-                w[i] = self.closest_weight(b[i]);
-            }
+            w[i] = self.closest_weight(b[i]);
         }
         w
     }

@@ -3,11 +3,8 @@ use borrow.Author.Needs.{needs}
 use Rattle.compress.proofs.inter6.compressed_from.Statement.{statement}
 use Rattle.compress.proofs.inter6.compressed_from.Tie as tie
 
-fitted-requires : tie.Need-fitted-requires
-fitted-requires c κs = search needs
-
-fitted-requires-2 : tie.Need-fitted-requires-2
-fitted-requires-2 c κs = search needs
+fitted-twice-requires : tie.Need-fitted-twice-requires
+fitted-twice-requires c κs = search needs
 
 refine-endpoints-requires : tie.Need-refine-endpoints-requires
 refine-endpoints-requires c κs = search needs
@@ -17,9 +14,9 @@ coded6-requires c κs = search needs
 
 returns : tie.Need-returns
 unfolding compressedFrom
-returns c = rw (c .coded6 .ensures, c .before .refine-endpoints .ensures, c .before .before .fitted2 .ensures, c .before .before .before .fitted .ensures)
+returns c = rw (c .coded6 .ensures, c .before .refine-endpoints .ensures, c .before .before .fitted-twice .ensures)
 
 pub compressed-from-spec : {M : Type 1} → statement M
 compressed-from-spec =
     tie.close
-    (tie.spec fitted-requires fitted-requires-2 refine-endpoints-requires coded6-requires returns)
+    (tie.spec fitted-twice-requires refine-endpoints-requires coded6-requires returns)

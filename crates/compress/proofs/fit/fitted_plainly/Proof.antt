@@ -1,7 +1,7 @@
 use Rattle.compress.specs.Inter6.{fitted}
 use borrow.Author.Needs.{needs}
-use Rattle.compress.proofs.inter6.fitted.Statement.{statement}
-use Rattle.compress.proofs.inter6.fitted.Tie as tie
+use Rattle.compress.proofs.fit.fitted_plainly.Statement.{statement}
+use Rattle.compress.proofs.fit.fitted_plainly.Tie as tie
 
 new-requires : tie.Need-new-requires
 new-requires c κs = search needs
@@ -22,8 +22,8 @@ returns : tie.Need-returns
 unfolding fitted
 returns c = rw (c .clamp2 .ensures, c .before .clamp .ensures, c .before .before .least-squares .ensures, c .before .before .before .before .block-closest-weights .ensures, c .before .before .before .before .before .new .ensures)
 
-pub fitted-spec : {M : Type 1} → statement M
-fitted-spec =
+pub fitted-plainly-spec : {M : Type 1} → statement M
+fitted-plainly-spec =
     tie.close
     (tie.spec
     new-requires
