@@ -3,15 +3,17 @@ use mathlib.Core.Path.{_≡_, refl, ap₂, _∙_}
 use mathlib.Core.Logic.{⊎-elim}
 use mathlib.Core.Bool.{Bool, true, false, cond}
 use mathlib.Core.List.{List, [], _∷_}
-use Prim.Native.Nat.{ℕ, zero, suc, _-_, _%_, _≤_, _<_, min}
-use native.Mathlib.Nat.{mod-eq-of-lt}
+use Prim.Native.Nat.{ℕ, zero, suc, _-_, _^_, _≤_, _<_, min}
 use native.Mathlib.Omega.{arith}
 use lib.ListN.{getD}
-use lib.Ieee.{Float, binary32, lt, le, neg, add, sub, mul, ofBits, ofInt}
+use lib.IntN.{pos}
+use lib.Dec.{T, le→leb}
+use lib.Ieee.{Float, binary32, lt, le, neg, add, sub, mul, ofBits, ofInt, inFloat, inSigned, toSigned}
+use lib.Ieee.Back.{positive-back}
 use lib.Ieee.Bits.{is-true}
 use lib.Ieee.Fits.{add-fits}
 use Rattle.floats.specs.Arithmetic.{_⊕_, _⊖_, _⊗_, squared, whole, half, f1}
-use Rattle.floats.specs.Helpers.{absOf, byteOf}
+use Rattle.floats.specs.Helpers.{absOf, byteOf, byteUpTo7}
 use Rattle.floats.proofs.WholePart.{trunc-capped}
 use Rattle.floats.proofs.Squares.{square-abs}
 use Rattle.block.specs.Samples.{tabulate, perPixel}
@@ -78,6 +80,16 @@ blend7-le p x = capped (byteOf (blend p x))
     capped : (n : ℕ) → min n 7 ≤ 7
     capped n = omega arith
 
+-- a whole number up to 7 as a float, cast back
+pub capped-back : (x : Float) → T (inSigned binary32 31 (whole (byteUpTo7 x))) × (toSigned 31 (whole (byteUpTo7 x)) ≡ pos (byteUpTo7 x))
+capped-back x = positive-back binary32 31 (byteUpTo7 x) (few (byteOf x)) (small (byteOf x))
+  where
+    few : (n : ℕ) → T (inFloat binary32 (pos (min n 7)))
+    few n = unfold inFloat in le→leb (min n 7) (2 ^ 24) (omega arith)
+
+    small : (n : ℕ) → min n 7 < 2 ^ 31
+    small n = omega arith
+
 pub closest6-lt : (p : Inter6Palette) (x : Float) → closest6 p x .index < 8
 unfolding closest6
 closest6-lt p x = map-lt (blend7 p x) (blend7-le p x)
@@ -128,10 +140,12 @@ weight-above p x h =
     (trunc-capped (blend p x) (is-true _ (add-fits binary32 (x ⊗ p .factor1) (p .add1))) h)
 
 -- ---- a whole block
--- what the code packs, by way of an array of sixteen numbers below 8 and a map
-pub block-indexes : (k map : List ℕ) (f rule : ℕ → ℕ) → k ≡ perPixel f → ((i : ℕ) → f i < 8) → ((i : ℕ) → getD map (f i) 0 ≡ rule i)
-    → filledTo (λ i. getD map (getD k i 0 % 8) 0) 16 ≡ filledTo rule 16
-block-indexes k map f rule e small same = filled-same _ rule 16 (λ i h. rw (e, getD-tabulate f 0 16 i h, mod-eq-of-lt (small i)) (same i))
+-- what the code packs, by way of an array of sixteen indexes
+pub block-indexes : (k : List ℕ) (f : ℕ → ℕ) → k ≡ perPixel f → filledTo (λ i. getD k i 0) 16 ≡ filledTo f 16
+block-indexes k f e = filled-same _ f 16 (λ i h. rw e (getD-tabulate f 0 16 i h))
+
+pub indexes-below : (k : List ℕ) (f : ℕ → ℕ) → k ≡ perPixel f → ((i : ℕ) → f i < 8) → (i : ℕ) → i < 16 → getD k i 0 < 8
+indexes-below k f e small i h = rw (e, getD-tabulate f 0 16 i h) (small i)
 
 abbrev indexed : ℕ → Float → Indexed
 indexed d total = record { indexes = record { «data» = d }; error = total }
@@ -140,20 +154,6 @@ indexed d total = record { indexes = record { «data» = d }; error = total }
 pub sum-abs : (g : ℕ → Float) → sumOfSquares (perPixel g) ≡ sumOfSquares (perPixel (λ i. absOf (g i)))
 unfolding sumOfSquares rowDot tabulate
 sum-abs g = simp square-abs
-
-abbrev pub sameMap : List ℕ
-sameMap = 0 ∷ 1 ∷ 2 ∷ 3 ∷ 4 ∷ 5 ∷ 6 ∷ 7 ∷ []
-
-pub same-map : (k : ℕ) → k < 8 → getD sameMap k 0 ≡ k
-same-map zero h = refl
-same-map (suc zero) h = refl
-same-map (suc (suc zero)) h = refl
-same-map (suc (suc (suc zero))) h = refl
-same-map (suc (suc (suc (suc zero)))) h = refl
-same-map (suc (suc (suc (suc (suc zero))))) h = refl
-same-map (suc (suc (suc (suc (suc (suc zero)))))) h = refl
-same-map (suc (suc (suc (suc (suc (suc (suc zero))))))) h = refl
-same-map (suc (suc (suc (suc (suc (suc (suc (suc k)))))))) h = absurd (omega arith)
 
 pub indexed-is : (list : IndexList) (error : Float) (d : ℕ) (total : Float) → list .«data» ≡ d → error ≡ total
     → indexed (list .«data») error ≡ indexed d total

@@ -109,9 +109,8 @@ impl Inter4Palette {
             k[i] = n.index;
             e[i] = n.error;
         }
-        let map = [0u8, 1, 2, 3, 4, 5, 6, 7];
         Indexed {
-            indexes: crate::indexes(&k, &map),
+            indexes: crate::indexes(&k),
             error: block::sum_of_squares(&e),
         }
     }

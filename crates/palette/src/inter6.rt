@@ -1,6 +1,7 @@
 // Inter6Palette.
 ghost use mathlib.Core.Path.{_≡_};
 ghost use Prim.Native.Nat.{_≤_, _<_};
+ghost use lib.ListN.{getD};
 ghost use Rattle.palette.specs.Palettes.{inter6Palette, indexMap, blended as blendedOf, values6};
 ghost use Rattle.palette.specs.Closest.{blend7 as blend7Of, closest6, weight, weights, blockClosest};
 use crate::Closest;
@@ -38,6 +39,15 @@ pub fn values(c0: f32, c1: f32) -> [f32; 8]
     ]
 }
 
+// INDEX_MAP by arithmetic, which a loop does for four pixels at once.
+fn index_of(k: u32) -> u32
+    requires { ⌜ k ≤ 7 ⌝ }
+    ensures { λ r. ⌜ r ≡ getD indexMap k 0 ⌝ }
+{
+    let m = (8 - k) % 8;
+    m + floats::one_if(m == 0) - floats::one_if(m == 1)
+}
+
 pub struct Inter6Palette {
     pub c0: f32,
     pub c1: f32,
@@ -70,10 +80,12 @@ impl Inter6Palette {
         Self::new(e.c0_f, e.c1_f)
     }
 
+    // By way of i32: x86-64 casts four floats to signed integers at once, to unsigned ones not.
     fn blend7(self, pixel: f32) -> u32
         ensures { λ r. ⌜ (r ≡ blend7Of self pixel) × (r ≤ 7) ⌝ }
     {
-        floats::byte_up_to_7(pixel * self.factor1 + self.add1)
+        let k = floats::up_to_7(pixel * self.factor1 + self.add1) as i32;
+        k as u32
     }
 
     // k counts sevenths: 8 less the index that a decoder reads.
@@ -130,12 +142,11 @@ impl Inter6Palette {
         let mut k = [0u32; 16];
         let mut e = [0.0f32; 16];
         for i in 0..16usize {
-            k[i] = self.blend7(b[i]);
+            k[i] = index_of(self.blend7(b[i]));
             e[i] = b[i] - self.value(b[i]);
         }
-        let map = Self::INDEX_MAP;
         Indexed {
-            indexes: crate::indexes(&k, &map),
+            indexes: crate::indexes(&k),
             error: block::sum_of_squares(&e),
         }
     }

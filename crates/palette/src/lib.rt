@@ -1,6 +1,6 @@
 // bc4.rs: the two palettes.
 ghost use mathlib.Core.Path.{_≡_};
-ghost use Prim.Native.Nat.{ℕ, _%_, _<_};
+ghost use Prim.Native.Nat.{ℕ, _+_, _*_, _<_};
 ghost use lib.ListN.{getD};
 ghost use Rattle.index_list.specs.Indexes.{filledTo};
 ghost use Rattle.palette.specs.Palettes.{valuesOf};
@@ -33,18 +33,24 @@ pub struct Indexed {
     pub error: f32,
 }
 
-// The list of sixteen entries of a map to indexes. The two callers' maps hold indexes, below 8. The remainder changes nothing: it shows the
-// checker that k's numbers are below 8.
-fn indexes(k: &[u32; 16], map: &[u8; 8]) -> IndexList
-    requires { ⌜ ((j : ℕ) → j < 8 → getD (now map) j 0 < 8) ⌝ }
-    ensures { λ r. ⌜ r .data ≡ filledTo (λ i. getD (now (map .entry)) (getD (now (k .entry)) i 0 % 8) 0) 16 ⌝ }
+// Four indexes, three bits each.
+fn four(a: u32, b: u32, c: u32, d: u32) -> u32
+    requires { ⌜ (a < 8) × (b < 8) × (c < 8) × (d < 8) ⌝ }
+    ensures { λ r. ⌜ (r ≡ a + 8 * b + 64 * c + 512 * d) × (r < 4096) ⌝ }
 {
-    let mut list = IndexList::new_empty();
-    for i in 0..16usize {
-        let at = (k[i] % 8) as usize;
-        list = list.set(i, map[at]);
+    a + 8 * b + 64 * c + 512 * d
+}
+
+// The list of sixteen indexes, by halves that u32 holds: four of those are one vector.
+fn indexes(k: &[u32; 16]) -> IndexList
+    requires { ⌜ ((i : ℕ) → i < 16 → getD (now k) i 0 < 8) ⌝ }
+    ensures { λ r. ⌜ r .data ≡ filledTo (λ i. getD (now (k .entry)) i 0) 16 ⌝ }
+{
+    let low = four(k[0], k[1], k[2], k[3]) + 4096 * four(k[4], k[5], k[6], k[7]);
+    let high = four(k[8], k[9], k[10], k[11]) + 4096 * four(k[12], k[13], k[14], k[15]);
+    IndexList {
+        data: (low as u64) + ((high as u64) << 24),
     }
-    list
 }
 
 fn values(kind: Kind, c0: f32, c1: f32) -> [f32; 8]

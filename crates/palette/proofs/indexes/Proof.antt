@@ -1,85 +1,135 @@
-use mathlib.Core.Path.{_≡_, sym, _∙_}
-use mathlib.Core.List.{List}
-use Prim.Native.Nat.{ℕ, _%_, _<_, _≤_, _-_}
 use native.Mathlib.Omega.{arith}
-use lib.ListN.{getD}
-use borrow.Author.Needs.{needs}
 use Rattle.index_list.specs.Indexes.{filledTo}
-use Rattle.index_list.proofs.Laws.{filled-more, filled-unset}
+use borrow.Author.Needs.{needs}
 use Rattle.palette.proofs.indexes.Statement.{statement}
 use Rattle.palette.proofs.indexes.Tie as tie
 
--- the index of pixel i
-abbrev mapped : List ℕ → List ℕ → ℕ → ℕ
-mapped k map i = getD map (getD k i 0 % 8) 0
+element-copy-out-four : tie.Need-element-copy-out-four
+element-copy-out-four c = search needs
 
-abbrev Inv-loop : tie.InvT-loop
-Inv-loop k map list₀ i₀ list i = (i ≤ 16) × (list .data ≡ filledTo (mapped k map) i)
+element-copy-out-four-2 : tie.Need-element-copy-out-four-2
+element-copy-out-four-2 c = search needs
 
-abbrev μ-loop : tie.MeasureT-loop
-μ-loop k map list₀ i₀ list i = 16 - i
+element-copy-out-four-3 : tie.Need-element-copy-out-four-3
+element-copy-out-four-3 c = search needs
 
-new-empty-requires : tie.Need-new-empty-requires Inv-loop μ-loop
-new-empty-requires c κs = search needs
+element-copy-out-four-4 : tie.Need-element-copy-out-four-4
+element-copy-out-four-4 c = search needs
 
-loop-holds : tie.Need-loop-holds Inv-loop μ-loop
+four-requires : tie.Need-four-requires
+four-requires c κs =
+    let s = c .before .before .before .before .pre in
+    (s 0 (omega arith), s 1 (omega arith), s 2 (omega arith), s 3 (omega arith))
+
+element-copy-out-four-5 : tie.Need-element-copy-out-four-5
+element-copy-out-four-5 c = search needs
+
+element-copy-out-four-6 : tie.Need-element-copy-out-four-6
+element-copy-out-four-6 c = search needs
+
+element-copy-out-four-7 : tie.Need-element-copy-out-four-7
+element-copy-out-four-7 c = search needs
+
+element-copy-out-four-8 : tie.Need-element-copy-out-four-8
+element-copy-out-four-8 c = search needs
+
+four-requires-2 : tie.Need-four-requires-2
+four-requires-2 c κs =
+    let s = c .before .before .before .before .before .before .before .before .before .pre in
+    (s 4 (omega arith), s 5 (omega arith), s 6 (omega arith), s 7 (omega arith))
+
+mul-low : tie.Need-mul-low
+mul-low c = search needs
+
+add-low : tie.Need-add-low
+add-low c = search needs
+
+element-copy-out-four-9 : tie.Need-element-copy-out-four-9
+element-copy-out-four-9 c = search needs
+
+element-copy-out-four-10 : tie.Need-element-copy-out-four-10
+element-copy-out-four-10 c = search needs
+
+element-copy-out-four-11 : tie.Need-element-copy-out-four-11
+element-copy-out-four-11 c = search needs
+
+element-copy-out-four-12 : tie.Need-element-copy-out-four-12
+element-copy-out-four-12 c = search needs
+
+four-requires-3 : tie.Need-four-requires-3
+four-requires-3 c κs =
+    let s = c .before .before .before .before .before .before .before .before .before .before .before .before .before .before .pre in
+    (s 8 (omega arith), s 9 (omega arith), s 10 (omega arith), s 11 (omega arith))
+
+element-copy-out-four-13 : tie.Need-element-copy-out-four-13
+element-copy-out-four-13 c = search needs
+
+element-copy-out-four-14 : tie.Need-element-copy-out-four-14
+element-copy-out-four-14 c = search needs
+
+element-copy-out-four-15 : tie.Need-element-copy-out-four-15
+element-copy-out-four-15 c = search needs
+
+element-copy-out-four-16 : tie.Need-element-copy-out-four-16
+element-copy-out-four-16 c = search needs
+
+four-requires-4 : tie.Need-four-requires-4
+four-requires-4 c κs =
+    let s = c .before .before .before .before .before .before .before .before .before .before .before .before .before .before .before .before .before .before .before .pre in
+    (s 12 (omega arith), s 13 (omega arith), s 14 (omega arith), s 15 (omega arith))
+
+mul-high : tie.Need-mul-high
+mul-high c = search needs
+
+add-high : tie.Need-add-high
+add-high c = search needs
+
+cast-t47 : tie.Need-cast-t47
+cast-t47 c = search needs
+
+cast-t48 : tie.Need-cast-t48
+cast-t48 c = search needs
+
+add-t50 : tie.Need-add-t50
+add-t50 c = search needs
+
+returns : tie.Need-returns
 unfolding filledTo
-loop-holds c = (search needs, c .new-empty .ensures)
-
-mul-at : tie.Need-mul-at Inv-loop μ-loop
-mul-at c = search needs
-
-element-copy-out-at : tie.Need-element-copy-out-at Inv-loop μ-loop
-element-copy-out-at c = search needs
-
-cast-at : tie.Need-cast-at Inv-loop μ-loop
-cast-at c = search needs
-
-element-copy-out-set : tie.Need-element-copy-out-set Inv-loop μ-loop
-element-copy-out-set c = search needs
-
-set-requires : tie.Need-set-requires Inv-loop μ-loop
-set-requires c κs =
-    let h = c .before .before .before in
-    let s = h .before .before in
-    let k = s .args .k .now in
-    let map = s .args .map .now in
-    let small : (i : ℕ) → mapped k map i < 8 = λ i. s .pre (getD k i 0 % 8) (omega arith) in
-    (search needs, small (h .loop .i), rw (h .loop .inv .1) (filled-unset (mapped k map) (h .loop .i) (λ j l. small j) (h .loop .i) (omega arith)))
-
-add-i : tie.Need-add-i Inv-loop μ-loop
-add-i c = search needs
-
-loop-less : tie.Need-loop-less Inv-loop μ-loop
-loop-less c = search needs
-
-loop-again : tie.Need-loop-again Inv-loop μ-loop
-loop-again c =
-    let h = c .before .before .before .before in
-    let s = h .before .before in
-    let f = mapped (s .args .k .now) (s .args .map .now) in
-    (search needs, c .set .ensures ∙ rw (h .loop .inv .1) (sym (filled-more f (h .loop .i))))
-
-returns : tie.Need-returns Inv-loop μ-loop
 returns c =
-    let h = c .before in
-    let e : h .loop .i ≡ 16 = omega arith in
-    rw (← e) (h .loop .inv .1)
+    let f3 = c .before .before .before .before .before in
+    let f2 = f3 .before .before .before .before .before in
+    let f1 = f2 .before .before .before .before .before in
+    omega (arith, c .four4 .ensures .0, f3 .four3 .ensures .0, f2 .four2 .ensures .0, f1 .four .ensures .0)
 
 pub indexes-spec : {M : Type 1} → statement M
 indexes-spec =
     tie.close
     (tie.spec
-    Inv-loop
-    μ-loop
-    new-empty-requires
-    loop-holds
-    mul-at
-    element-copy-out-at
-    cast-at
-    element-copy-out-set
-    set-requires
-    add-i
-    loop-less
-    loop-again
+    element-copy-out-four
+    element-copy-out-four-2
+    element-copy-out-four-3
+    element-copy-out-four-4
+    four-requires
+    element-copy-out-four-5
+    element-copy-out-four-6
+    element-copy-out-four-7
+    element-copy-out-four-8
+    four-requires-2
+    mul-low
+    add-low
+    element-copy-out-four-9
+    element-copy-out-four-10
+    element-copy-out-four-11
+    element-copy-out-four-12
+    four-requires-3
+    element-copy-out-four-13
+    element-copy-out-four-14
+    element-copy-out-four-15
+    element-copy-out-four-16
+    four-requires-4
+    mul-high
+    add-high
+    cast-t47
+    cast-t48
+    add-t50
     returns)

@@ -8,7 +8,7 @@ use Rattle.block.specs.Samples.{pixelAt}
 use Rattle.block.specs.Orders.{sumOfSquares}
 use Rattle.block.proofs.Fill.{Filled, fill-start, fill-step, fill-end}
 use Rattle.palette.specs.Closest.{nearestTo, closest4}
-use Rattle.palette.proofs.ClosestLaws.{nearest6-lt, sameMap, same-map, block-indexes, indexed-is}
+use Rattle.palette.proofs.ClosestLaws.{nearest6-lt, block-indexes, indexes-below, indexed-is}
 use Rattle.palette.proofs.inter4.Inter4Palette.block_closest.Statement.{statement}
 use Rattle.palette.proofs.inter4.Inter4Palette.block_closest.Tie as tie
 
@@ -67,7 +67,12 @@ loop-again c =
     )
 
 indexes-requires : tie.Need-indexes-requires Inv-loop μ-loop
-indexes-requires c κs = λ j l. rw (same-map j l) l
+indexes-requires c κs =
+    let h = c .before .before in
+    let colors = h .before .args .self .colors in
+    let b = h .before .args .b .now in
+    let K = fill-end 0 (index colors b) 16 (h .loop .k) (h .loop .i) (h .loop .inv .1) (omega arith) in
+    indexes-below (h .loop .k) (index colors b) K (λ i. nearest6-lt colors (pixelAt b i))
 
 sum-of-squares-requires : tie.Need-sum-of-squares-requires Inv-loop μ-loop
 sum-of-squares-requires c κs = search needs
@@ -76,13 +81,12 @@ returns : tie.Need-returns Inv-loop μ-loop
 unfolding closest4
 returns c =
     let n = c .before .before in
-    let h = n .before .before .before .before in
+    let h = n .before .before .before in
     let colors = h .before .args .self .colors in
     let b = h .before .args .b .now in
     let K = fill-end 0 (index colors b) 16 (h .loop .k) (h .loop .i) (h .loop .inv .1) (omega arith) in
     let E = fill-end nan (off colors b) 16 (h .loop .e) (h .loop .i) (h .loop .inv .2) (omega arith) in
-    let below : (i : ℕ) → index colors b i < 8 = λ i. nearest6-lt colors (pixelAt b i) in
-    let I = n .indexes .ensures ∙ block-indexes (h .loop .k) sameMap (index colors b) (index colors b) K below (λ i. same-map (index colors b i) (below i)) in
+    let I = n .indexes .ensures ∙ block-indexes (h .loop .k) (index colors b) K in
     let S = c .sum-of-squares .ensures ∙ ap sumOfSquares E in
     indexed-is (n .indexes .result) (c .sum-of-squares .result) _ _ I S
 

@@ -2,6 +2,7 @@ use mathlib.Core.Path.{refl, ap, _∙_}
 use mathlib.Core.List.{List}
 use Prim.Native.Nat.{ℕ, _≤_, _<_, _-_}
 use native.Mathlib.Omega.{arith}
+use lib.ListN.{getD}
 use lib.Ieee.{Float, nan}
 use borrow.Author.Needs.{needs}
 use Rattle.block.specs.Samples.{pixelAt}
@@ -11,19 +12,19 @@ use Rattle.floats.specs.Arithmetic.{_⊖_}
 use Rattle.palette.specs.declared.inter6.Inter6Palette.{Inter6Palette}
 use Rattle.palette.specs.Palettes.{indexMap, blended}
 use Rattle.palette.specs.Closest.{blend7, closest6}
-use Rattle.palette.proofs.ClosestLaws.{map-lt, blend7-le, block-indexes, indexed-is, sum-abs}
+use Rattle.palette.proofs.ClosestLaws.{map-lt, blend7-le, block-indexes, indexes-below, indexed-is, sum-abs}
 use Rattle.palette.proofs.inter6.Inter6Palette.block_closest.Statement.{statement}
 use Rattle.palette.proofs.inter6.Inter6Palette.block_closest.Tie as tie
 
--- the sevenths and the error of pixel i
-abbrev sevenths : Inter6Palette → List Float → ℕ → ℕ
-sevenths p b i = blend7 p (pixelAt b i)
+-- the index and the error of pixel i
+abbrev index : Inter6Palette → List Float → ℕ → ℕ
+index p b i = getD indexMap (blend7 p (pixelAt b i)) 0
 
 abbrev off : Inter6Palette → List Float → ℕ → Float
-off p b i = pixelAt b i ⊖ blended p (sevenths p b i)
+off p b i = pixelAt b i ⊖ blended p (blend7 p (pixelAt b i))
 
 abbrev Inv-loop : tie.InvT-loop
-Inv-loop self b k₀ e₀ i₀ k e i = (i ≤ 16) × Filled 0 (sevenths self b) 16 k i × Filled nan (off self b) 16 e i
+Inv-loop self b k₀ e₀ i₀ k e i = (i ≤ 16) × Filled 0 (index self b) 16 k i × Filled nan (off self b) 16 e i
 
 abbrev μ-loop : tie.MeasureT-loop
 μ-loop self b k₀ e₀ i₀ k e i = 16 - i
@@ -39,6 +40,9 @@ element-copy-out-blend7 c = search needs
 
 blend7-requires : tie.Need-blend7-requires Inv-loop μ-loop
 blend7-requires c κs = search needs
+
+index-of-requires : tie.Need-index-of-requires Inv-loop μ-loop
+index-of-requires c κs = c .blend7 .ensures .1
 
 mul-k : tie.Need-mul-k Inv-loop μ-loop
 mul-k c = search needs
@@ -76,16 +80,22 @@ loop-less c = search needs
 loop-again : tie.Need-loop-again Inv-loop μ-loop
 loop-again c =
     let n = c .before .before .before in
-    let h = n .before .before .before in
+    let k = n .before in
+    let h = k .before .before .before in
     let a = h .before .args in
-    let t = n .before .before .loop-test .taken in (
+    let t = k .before .before .loop-test .taken in (
       search needs,
-      fill-step 0 (sevenths (a .self) (a .b .now)) 16 (h .loop .k) (h .loop .i) (n .blend7 .result) (h .loop .inv .1) t (n .blend7 .ensures .0),
+      fill-step 0 (index (a .self) (a .b .now)) 16 (h .loop .k) (h .loop .i) (n .index-of .result) (h .loop .inv .1) t (rw (← k .blend7 .ensures .0) (n .index-of .ensures)),
       fill-step nan (off (a .self) (a .b .now)) 16 (h .loop .e) (h .loop .i) _ (h .loop .inv .2) t (rw (c .value .ensures) refl),
     )
 
 indexes-requires : tie.Need-indexes-requires Inv-loop μ-loop
-indexes-requires c κs = λ j l. map-lt j (omega arith)
+indexes-requires c κs =
+    let h = c .before .before in
+    let p = h .before .args .self in
+    let b = h .before .args .b .now in
+    let K = fill-end 0 (index p b) 16 (h .loop .k) (h .loop .i) (h .loop .inv .1) (omega arith) in
+    indexes-below (h .loop .k) (index p b) K (λ i. map-lt (blend7 p (pixelAt b i)) (blend7-le p (pixelAt b i)))
 
 sum-of-squares-requires : tie.Need-sum-of-squares-requires Inv-loop μ-loop
 sum-of-squares-requires c κs = search needs
@@ -94,13 +104,12 @@ returns : tie.Need-returns Inv-loop μ-loop
 unfolding closest6
 returns c =
     let n = c .before .before in
-    let h = n .before .before .before .before in
+    let h = n .before .before .before in
     let p = h .before .args .self in
     let b = h .before .args .b .now in
-    let K = fill-end 0 (sevenths p b) 16 (h .loop .k) (h .loop .i) (h .loop .inv .1) (omega arith) in
+    let K = fill-end 0 (index p b) 16 (h .loop .k) (h .loop .i) (h .loop .inv .1) (omega arith) in
     let E = fill-end nan (off p b) 16 (h .loop .e) (h .loop .i) (h .loop .inv .2) (omega arith) in
-    let below : (i : ℕ) → sevenths p b i < 8 = λ i. omega (arith, blend7-le p (pixelAt b i)) in
-    let I = n .indexes .ensures ∙ block-indexes (h .loop .k) indexMap (sevenths p b) (λ i. closest6 p (pixelAt b i) .index) K below (λ i. refl) in
+    let I = n .indexes .ensures ∙ block-indexes (h .loop .k) (index p b) K in
     let S = c .sum-of-squares .ensures ∙ ap sumOfSquares E ∙ sum-abs (off p b) in
     indexed-is (n .indexes .result) (c .sum-of-squares .result) _ _ I S
 
@@ -114,6 +123,7 @@ block-closest-spec =
     mul-blend7
     element-copy-out-blend7
     blend7-requires
+    index-of-requires
     mul-k
     array-write-k
     mul-e
