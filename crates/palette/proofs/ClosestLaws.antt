@@ -3,20 +3,17 @@ use mathlib.Core.Path.{_≡_, refl, ap₂, _∙_}
 use mathlib.Core.Logic.{⊎-elim}
 use mathlib.Core.Bool.{Bool, true, false, cond}
 use mathlib.Core.List.{List, [], _∷_}
-use Prim.Native.Nat.{ℕ, zero, suc, _-_, _^_, _≤_, _<_, min}
+use Prim.Native.Nat.{ℕ, zero, suc, _+_, _*_, _-_, _≤_, _<_, min}
 use native.Mathlib.Omega.{arith}
 use lib.ListN.{getD}
-use lib.IntN.{pos}
-use lib.Dec.{T, le→leb}
-use lib.Ieee.{Float, binary32, lt, le, neg, add, sub, mul, ofBits, ofInt, inFloat, inSigned, toSigned}
-use lib.Ieee.Back.{positive-back}
+use lib.Ieee.{Float, binary32, lt, le, neg, add, sub, mul, ofBits, ofInt}
 use lib.Ieee.Bits.{is-true}
 use lib.Ieee.Fits.{add-fits}
-use Rattle.floats.specs.Arithmetic.{_⊕_, _⊖_, _⊗_, squared, whole, half, f1}
-use Rattle.floats.specs.Helpers.{absOf, byteOf, byteUpTo7}
+use Rattle.floats.specs.Arithmetic.{_⊕_, _⊖_, _⊗_, squared, whole, f0, half, f1}
+use Rattle.floats.specs.Helpers.{absOf, byteOf}
 use Rattle.floats.proofs.WholePart.{trunc-capped}
 use Rattle.floats.proofs.Squares.{square-abs}
-use Rattle.block.specs.Samples.{tabulate, perPixel}
+use Rattle.block.specs.Samples.{pixelAt, tabulate, perPixel}
 use Rattle.block.specs.Orders.{rowDot, sumOfSquares}
 use Rattle.block.proofs.Fill.{getD-tabulate}
 use Rattle.index_list.specs.Indexes.{filledTo}
@@ -26,7 +23,7 @@ use Rattle.palette.specs.declared.Indexed.{Indexed}
 use Rattle.palette.specs.declared.inter4.Nearest.{Nearest}
 use Rattle.palette.specs.declared.inter6.Inter6Palette.{Inter6Palette}
 use Rattle.palette.specs.Palettes.{entry, seventh, indexMap, blended}
-use Rattle.palette.specs.Closest.{blend, blend7, weight, cappedWeight, closest6, defaultOf, nearerOf, nearestTo, closest4}
+use Rattle.palette.specs.Closest.{blend, blend7, index6, off6, rowCode, rowSum, weight, cappedWeight, closest6, defaultOf, nearerOf, nearestTo, closest4}
 
 -- ---- four values
 -- a choice between two records, field by field as the code makes it
@@ -79,16 +76,6 @@ blend7-le p x = capped (byteOf (blend p x))
   where
     capped : (n : ℕ) → min n 7 ≤ 7
     capped n = omega arith
-
--- a whole number up to 7 as a float, cast back
-pub capped-back : (x : Float) → T (inSigned binary32 31 (whole (byteUpTo7 x))) × (toSigned 31 (whole (byteUpTo7 x)) ≡ pos (byteUpTo7 x))
-capped-back x = positive-back binary32 31 (byteUpTo7 x) (few (byteOf x)) (small (byteOf x))
-  where
-    few : (n : ℕ) → T (inFloat binary32 (pos (min n 7)))
-    few n = unfold inFloat in le→leb (min n 7) (2 ^ 24) (omega arith)
-
-    small : (n : ℕ) → min n 7 < 2 ^ 31
-    small n = omega arith
 
 pub closest6-lt : (p : Inter6Palette) (x : Float) → closest6 p x .index < 8
 unfolding closest6
@@ -149,6 +136,21 @@ indexes-below k f e small i h = rw (e, getD-tabulate f 0 16 i h) (small i)
 
 abbrev indexed : ℕ → Float → Indexed
 indexed d total = record { indexes = record { «data» = d }; error = total }
+
+-- ---- the same by rows
+pub row-lt : (p : Inter6Palette) (b : List Float) (i : ℕ) → rowCode p b i < 4096
+unfolding rowCode
+row-lt p b i =
+    let small : (k : ℕ) → index6 p (pixelAt b k) < 8 = λ k. map-lt (blend7 p (pixelAt b k)) (blend7-le p (pixelAt b k)) in
+    omega (arith, small (4 * i), small (4 * i + 1), small (4 * i + 2), small (4 * i + 3))
+
+pub rows-code : (p : Inter6Palette) (b : List Float) → rowCode p b 0 + 4096 * rowCode p b 1 + 16777216 * rowCode p b 2 + 68719476736 * rowCode p b 3 ≡ filledTo (λ i. index6 p (pixelAt b i)) 16
+unfolding rowCode filledTo
+rows-code p b = omega arith
+
+pub rows-sum : (p : Inter6Palette) (b : List Float) → f0 ⊕ rowSum p b 0 ⊕ rowSum p b 1 ⊕ rowSum p b 2 ⊕ rowSum p b 3 ≡ sumOfSquares (perPixel (λ i. off6 p (pixelAt b i)))
+unfolding rowSum sumOfSquares rowDot tabulate
+rows-sum p b = refl
 
 -- a square does not show the sign of an error
 pub sum-abs : (g : ℕ → Float) → sumOfSquares (perPixel g) ≡ sumOfSquares (perPixel (λ i. absOf (g i)))

@@ -3,7 +3,7 @@ ghost use mathlib.Core.Path.{_≡_};
 ghost use Prim.Native.Nat.{_≤_, _<_};
 ghost use lib.ListN.{getD};
 ghost use Rattle.palette.specs.Palettes.{inter6Palette, indexMap, blended as blendedOf, values6};
-ghost use Rattle.palette.specs.Closest.{blend7 as blend7Of, closest6, weight, weights, blockClosest};
+ghost use Rattle.palette.specs.Closest.{blend7 as blend7Of, index6, off6, rowCode, rowSum, closest6, weight, weights, blockClosest};
 use crate::Closest;
 use crate::Indexed;
 use end_points::EndPoints;
@@ -46,6 +46,18 @@ fn index_of(k: u32) -> u32
 {
     let m = (8 - k) % 8;
     m + floats::one_if(m == 0) - floats::one_if(m == 1)
+}
+
+// The index of a pixel, and its error with the sign: it is only squared.
+pub struct Match {
+    pub index: u32,
+    pub off: f32,
+}
+
+// Four indexes, and the sum of four squares.
+pub struct Row {
+    pub code: u32,
+    pub sum: f32,
 }
 
 pub struct Inter6Palette {
@@ -135,19 +147,44 @@ impl Inter6Palette {
         w
     }
 
-    // The error goes without its sign's being cleared: it is only squared.
+    fn matched(self, pixel: f32) -> Match
+        ensures { λ r. ⌜ (r .index ≡ index6 self pixel) × (r .index < 8) × (r .off ≡ off6 self pixel) ⌝ }
+    {
+        let k = self.blend7(pixel);
+        Match {
+            index: index_of(k),
+            off: pixel - self.value(pixel),
+        }
+    }
+
+    fn row(self, b: &[f32; 16], i: usize) -> Row
+        requires { ⌜ i < 4 ⌝ }
+        ensures { λ r. ⌜ (r .code ≡ rowCode self (now (b .entry)) i) × (r .code < 4096) × (r .sum ≡ rowSum self (now (b .entry)) i) ⌝ }
+    {
+        let x = self.matched(b[4 * i]);
+        let y = self.matched(b[4 * i + 1]);
+        let z = self.matched(b[4 * i + 2]);
+        let w = self.matched(b[4 * i + 3]);
+        Row {
+            code: crate::four(x.index, y.index, z.index, w.index),
+            sum: x.off * x.off + y.off * y.off + z.off * z.off + w.off * w.off,
+        }
+    }
+
+    // Row by row, as the squares are summed: four rows at once need no exchange of lanes.
     pub fn block_closest(self, b: &[f32; 16]) -> Indexed
         ensures { λ r. ⌜ r ≡ blockClosest (closest6 self) (now (b .entry)) ⌝ }
     {
-        let mut k = [0u32; 16];
-        let mut e = [0.0f32; 16];
-        for i in 0..16usize {
-            k[i] = index_of(self.blend7(b[i]));
-            e[i] = b[i] - self.value(b[i]);
+        let mut codes = [0u32; 4];
+        let mut sums = [0.0f32; 4];
+        for i in 0..4usize {
+            let r = self.row(b, i);
+            codes[i] = r.code;
+            sums[i] = r.sum;
         }
         Indexed {
-            indexes: crate::indexes(&k),
-            error: block::sum_of_squares(&e),
+            indexes: crate::of_rows(codes[0], codes[1], codes[2], codes[3]),
+            error: 0.0 + sums[0] + sums[1] + sums[2] + sums[3],
         }
     }
 }

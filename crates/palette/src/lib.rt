@@ -41,16 +41,28 @@ fn four(a: u32, b: u32, c: u32, d: u32) -> u32
     a + 8 * b + 64 * c + 512 * d
 }
 
-// The list of sixteen indexes, by halves that u32 holds: four of those are one vector.
+// The list of four rows of indexes, by halves that u32 holds.
+fn of_rows(r0: u32, r1: u32, r2: u32, r3: u32) -> IndexList
+    requires { ⌜ (r0 < 4096) × (r1 < 4096) × (r2 < 4096) × (r3 < 4096) ⌝ }
+    ensures { λ r. ⌜ r .data ≡ r0 + 4096 * r1 + 16777216 * r2 + 68719476736 * r3 ⌝ }
+{
+    let low = r0 + 4096 * r1;
+    let high = r2 + 4096 * r3;
+    IndexList {
+        data: (low as u64) + ((high as u64) << 24),
+    }
+}
+
 fn indexes(k: &[u32; 16]) -> IndexList
     requires { ⌜ ((i : ℕ) → i < 16 → getD (now k) i 0 < 8) ⌝ }
     ensures { λ r. ⌜ r .data ≡ filledTo (λ i. getD (now (k .entry)) i 0) 16 ⌝ }
 {
-    let low = four(k[0], k[1], k[2], k[3]) + 4096 * four(k[4], k[5], k[6], k[7]);
-    let high = four(k[8], k[9], k[10], k[11]) + 4096 * four(k[12], k[13], k[14], k[15]);
-    IndexList {
-        data: (low as u64) + ((high as u64) << 24),
-    }
+    of_rows(
+        four(k[0], k[1], k[2], k[3]),
+        four(k[4], k[5], k[6], k[7]),
+        four(k[8], k[9], k[10], k[11]),
+        four(k[12], k[13], k[14], k[15]),
+    )
 }
 
 fn values(kind: Kind, c0: f32, c1: f32) -> [f32; 8]

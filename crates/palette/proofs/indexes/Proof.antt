@@ -38,12 +38,6 @@ four-requires-2 c κs =
     let s = c .before .before .before .before .before .before .before .before .before .pre in
     (s 4 (omega arith), s 5 (omega arith), s 6 (omega arith), s 7 (omega arith))
 
-mul-low : tie.Need-mul-low
-mul-low c = search needs
-
-add-low : tie.Need-add-low
-add-low c = search needs
-
 element-copy-out-four-9 : tie.Need-element-copy-out-four-9
 element-copy-out-four-9 c = search needs
 
@@ -78,28 +72,17 @@ four-requires-4 c κs =
     let s = c .before .before .before .before .before .before .before .before .before .before .before .before .before .before .before .before .before .before .before .pre in
     (s 12 (omega arith), s 13 (omega arith), s 14 (omega arith), s 15 (omega arith))
 
-mul-high : tie.Need-mul-high
-mul-high c = search needs
-
-add-high : tie.Need-add-high
-add-high c = search needs
-
-cast-t47 : tie.Need-cast-t47
-cast-t47 c = search needs
-
-cast-t48 : tie.Need-cast-t48
-cast-t48 c = search needs
-
-add-t50 : tie.Need-add-t50
-add-t50 c = search needs
+of-rows-requires : tie.Need-of-rows-requires
+of-rows-requires c κs = search needs
 
 returns : tie.Need-returns
 unfolding filledTo
 returns c =
-    let f3 = c .before .before .before .before .before in
+    let f4 = c .before in
+    let f3 = f4 .before .before .before .before .before in
     let f2 = f3 .before .before .before .before .before in
     let f1 = f2 .before .before .before .before .before in
-    omega (arith, c .four4 .ensures .0, f3 .four3 .ensures .0, f2 .four2 .ensures .0, f1 .four .ensures .0)
+    omega (arith, c .of-rows .ensures, f4 .four4 .ensures .0, f3 .four3 .ensures .0, f2 .four2 .ensures .0, f1 .four .ensures .0)
 
 pub indexes-spec : {M : Type 1} → statement M
 indexes-spec =
@@ -115,8 +98,6 @@ indexes-spec =
     element-copy-out-four-7
     element-copy-out-four-8
     four-requires-2
-    mul-low
-    add-low
     element-copy-out-four-9
     element-copy-out-four-10
     element-copy-out-four-11
@@ -127,9 +108,5 @@ indexes-spec =
     element-copy-out-four-15
     element-copy-out-four-16
     four-requires-4
-    mul-high
-    add-high
-    cast-t47
-    cast-t48
-    add-t50
+    of-rows-requires
     returns)

@@ -1,75 +1,40 @@
-use mathlib.Core.Path.{refl, ap, _∙_}
-use mathlib.Core.List.{List}
-use Prim.Native.Nat.{ℕ, _≤_, _<_, _-_}
+use mathlib.Core.Path.{_≡_, refl, _∙_}
+use Prim.Native.Nat.{ℕ, _-_, _≤_, _<_}
 use native.Mathlib.Omega.{arith}
 use lib.ListN.{getD}
-use lib.Ieee.{Float, nan}
+use lib.Ieee.{nan}
 use borrow.Author.Needs.{needs}
+use Rattle.index_list.specs.Indexes.{filledTo}
 use Rattle.block.specs.Samples.{pixelAt}
-use Rattle.block.specs.Orders.{sumOfSquares}
-use Rattle.block.proofs.Fill.{Filled, fill-start, fill-step, fill-end}
-use Rattle.floats.specs.Arithmetic.{_⊖_}
-use Rattle.palette.specs.declared.inter6.Inter6Palette.{Inter6Palette}
-use Rattle.palette.specs.Palettes.{indexMap, blended}
-use Rattle.palette.specs.Closest.{blend7, closest6}
-use Rattle.palette.proofs.ClosestLaws.{map-lt, blend7-le, block-indexes, indexes-below, indexed-is, sum-abs}
+use Rattle.block.proofs.Fill.{Filled, fill-start, fill-step}
+use Rattle.palette.specs.Closest.{index6, off6, rowCode, rowSum, closest6}
+use Rattle.palette.proofs.ClosestLaws.{row-lt, rows-code, rows-sum, sum-abs, indexed-is}
 use Rattle.palette.proofs.inter6.Inter6Palette.block_closest.Statement.{statement}
 use Rattle.palette.proofs.inter6.Inter6Palette.block_closest.Tie as tie
 
--- the index and the error of pixel i
-abbrev index : Inter6Palette → List Float → ℕ → ℕ
-index p b i = getD indexMap (blend7 p (pixelAt b i)) 0
-
-abbrev off : Inter6Palette → List Float → ℕ → Float
-off p b i = pixelAt b i ⊖ blended p (blend7 p (pixelAt b i))
-
 abbrev Inv-loop : tie.InvT-loop
-Inv-loop self b k₀ e₀ i₀ k e i = (i ≤ 16) × Filled 0 (index self b) 16 k i × Filled nan (off self b) 16 e i
+Inv-loop self b codes₀ sums₀ i₀ codes sums i = (i ≤ 4) × Filled 0 (rowCode self b) 4 codes i × Filled nan (rowSum self b) 4 sums i
 
 abbrev μ-loop : tie.MeasureT-loop
-μ-loop self b k₀ e₀ i₀ k e i = 16 - i
+μ-loop self b codes₀ sums₀ i₀ codes sums i = 4 - i
 
 loop-holds : tie.Need-loop-holds Inv-loop μ-loop
-loop-holds c = (search needs, fill-start 0 _ 16 _ refl, fill-start nan _ 16 _ refl)
+loop-holds c = (search needs, fill-start 0 _ 4 _ refl, fill-start nan _ 4 _ refl)
 
-mul-blend7 : tie.Need-mul-blend7 Inv-loop μ-loop
-mul-blend7 c = search needs
+row-requires : tie.Need-row-requires Inv-loop μ-loop
+row-requires c κs = search needs
 
-element-copy-out-blend7 : tie.Need-element-copy-out-blend7 Inv-loop μ-loop
-element-copy-out-blend7 c = search needs
+mul-codes : tie.Need-mul-codes Inv-loop μ-loop
+mul-codes c = search needs
 
-blend7-requires : tie.Need-blend7-requires Inv-loop μ-loop
-blend7-requires c κs = search needs
+array-write-codes : tie.Need-array-write-codes Inv-loop μ-loop
+array-write-codes c = search needs
 
-index-of-requires : tie.Need-index-of-requires Inv-loop μ-loop
-index-of-requires c κs = c .blend7 .ensures .1
+mul-sums : tie.Need-mul-sums Inv-loop μ-loop
+mul-sums c = search needs
 
-mul-k : tie.Need-mul-k Inv-loop μ-loop
-mul-k c = search needs
-
-array-write-k : tie.Need-array-write-k Inv-loop μ-loop
-array-write-k c = search needs
-
-mul-e : tie.Need-mul-e Inv-loop μ-loop
-mul-e c = search needs
-
-element-copy-out-e : tie.Need-element-copy-out-e Inv-loop μ-loop
-element-copy-out-e c = search needs
-
-mul-value : tie.Need-mul-value Inv-loop μ-loop
-mul-value c = search needs
-
-element-copy-out-value : tie.Need-element-copy-out-value Inv-loop μ-loop
-element-copy-out-value c = search needs
-
-value-requires : tie.Need-value-requires Inv-loop μ-loop
-value-requires c κs = search needs
-
-mul-e-2 : tie.Need-mul-e-2 Inv-loop μ-loop
-mul-e-2 c = search needs
-
-array-write-e : tie.Need-array-write-e Inv-loop μ-loop
-array-write-e c = search needs
+array-write-sums : tie.Need-array-write-sums Inv-loop μ-loop
+array-write-sums c = search needs
 
 add-i : tie.Need-add-i Inv-loop μ-loop
 add-i c = search needs
@@ -79,39 +44,60 @@ loop-less c = search needs
 
 loop-again : tie.Need-loop-again Inv-loop μ-loop
 loop-again c =
-    let n = c .before .before .before in
-    let k = n .before in
-    let h = k .before .before .before in
-    let a = h .before .args in
-    let t = k .before .before .loop-test .taken in (
-      search needs,
-      fill-step 0 (index (a .self) (a .b .now)) 16 (h .loop .k) (h .loop .i) (n .index-of .result) (h .loop .inv .1) t (rw (← k .blend7 .ensures .0) (n .index-of .ensures)),
-      fill-step nan (off (a .self) (a .b .now)) 16 (h .loop .e) (h .loop .i) _ (h .loop .inv .2) t (rw (c .value .ensures) refl),
-    )
-
-indexes-requires : tie.Need-indexes-requires Inv-loop μ-loop
-indexes-requires c κs =
     let h = c .before .before in
     let p = h .before .args .self in
     let b = h .before .args .b .now in
-    let K = fill-end 0 (index p b) 16 (h .loop .k) (h .loop .i) (h .loop .inv .1) (omega arith) in
-    indexes-below (h .loop .k) (index p b) K (λ i. map-lt (blend7 p (pixelAt b i)) (blend7-le p (pixelAt b i)))
+    let t = c .before .loop-test .taken in (
+      search needs,
+      fill-step 0 (rowCode p b) 4 (h .loop .codes) (h .loop .i) (c .row .result .code) (h .loop .inv .1) t (c .row .ensures .0),
+      fill-step nan (rowSum p b) 4 (h .loop .sums) (h .loop .i) (c .row .result .sum) (h .loop .inv .2) t (c .row .ensures .2),
+    )
 
-sum-of-squares-requires : tie.Need-sum-of-squares-requires Inv-loop μ-loop
-sum-of-squares-requires c κs = search needs
+array-read-of-rows : tie.Need-array-read-of-rows Inv-loop μ-loop
+array-read-of-rows c = search needs
+
+array-read-of-rows-2 : tie.Need-array-read-of-rows-2 Inv-loop μ-loop
+array-read-of-rows-2 c = search needs
+
+array-read-of-rows-3 : tie.Need-array-read-of-rows-3 Inv-loop μ-loop
+array-read-of-rows-3 c = search needs
+
+array-read-of-rows-4 : tie.Need-array-read-of-rows-4 Inv-loop μ-loop
+array-read-of-rows-4 c = search needs
+
+of-rows-requires : tie.Need-of-rows-requires Inv-loop μ-loop
+of-rows-requires c κs =
+    let h = c .before in
+    let o = h .loop in
+    let p = h .before .args .self in
+    let b = h .before .args .b .now in
+    let small : (k : ℕ) → k < 4 → getD (o .codes) k 0 < 4096 = λ k l. rw (o .inv .1 .done k (omega arith)) (row-lt p b k) in
+    (small 0 (omega arith), small 1 (omega arith), small 2 (omega arith), small 3 (omega arith))
+
+array-read-t28 : tie.Need-array-read-t28 Inv-loop μ-loop
+array-read-t28 c = search needs
+
+array-read-t32 : tie.Need-array-read-t32 Inv-loop μ-loop
+array-read-t32 c = search needs
+
+array-read-t36 : tie.Need-array-read-t36 Inv-loop μ-loop
+array-read-t36 c = search needs
+
+array-read-t40 : tie.Need-array-read-t40 Inv-loop μ-loop
+array-read-t40 c = search needs
 
 returns : tie.Need-returns Inv-loop μ-loop
 unfolding closest6
 returns c =
-    let n = c .before .before in
-    let h = n .before .before .before in
+    let h = c .before .before in
+    let o = h .loop in
     let p = h .before .args .self in
     let b = h .before .args .b .now in
-    let K = fill-end 0 (index p b) 16 (h .loop .k) (h .loop .i) (h .loop .inv .1) (omega arith) in
-    let E = fill-end nan (off p b) 16 (h .loop .e) (h .loop .i) (h .loop .inv .2) (omega arith) in
-    let I = n .indexes .ensures ∙ block-indexes (h .loop .k) (index p b) K in
-    let S = c .sum-of-squares .ensures ∙ ap sumOfSquares E ∙ sum-abs (off p b) in
-    indexed-is (n .indexes .result) (c .sum-of-squares .result) _ _ I S
+    let code : (k : ℕ) → k < 4 → getD (o .codes) k 0 ≡ rowCode p b k = λ k l. o .inv .1 .done k (omega arith) in
+    let sum : (k : ℕ) → k < 4 → getD (o .sums) k nan ≡ rowSum p b k = λ k l. o .inv .2 .done k (omega arith) in
+    let I : c .of-rows .result .«data» ≡ filledTo (λ i. index6 p (pixelAt b i)) 16 = c .of-rows .ensures ∙ rw (code 0 (omega arith), code 1 (omega arith), code 2 (omega arith), code 3 (omega arith)) (rows-code p b) in
+    indexed-is (c .of-rows .result) _ _ _ I
+    (rw (sum 0 (omega arith), sum 1 (omega arith), sum 2 (omega arith), sum 3 (omega arith)) (rows-sum p b ∙ sum-abs (λ i. off6 p (pixelAt b i))))
 
 pub block-closest-spec : {M : Type 1} → statement M
 block-closest-spec =
@@ -120,22 +106,21 @@ block-closest-spec =
     Inv-loop
     μ-loop
     loop-holds
-    mul-blend7
-    element-copy-out-blend7
-    blend7-requires
-    index-of-requires
-    mul-k
-    array-write-k
-    mul-e
-    element-copy-out-e
-    mul-value
-    element-copy-out-value
-    value-requires
-    mul-e-2
-    array-write-e
+    row-requires
+    mul-codes
+    array-write-codes
+    mul-sums
+    array-write-sums
     add-i
     loop-less
     loop-again
-    indexes-requires
-    sum-of-squares-requires
+    array-read-of-rows
+    array-read-of-rows-2
+    array-read-of-rows-3
+    array-read-of-rows-4
+    of-rows-requires
+    array-read-t28
+    array-read-t32
+    array-read-t36
+    array-read-t40
     returns)
