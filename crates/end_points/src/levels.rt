@@ -18,7 +18,7 @@ fn scale(snorm: bool) -> f32
 pub fn nearest(x: f32, snorm: bool) -> u8
     ensures { λ r. ⌜ r ≡ L.nearest snorm x ⌝ }
 {
-    floats::byte_at_once(scale(snorm) * x + 0.5)
+    floats::byte_of(scale(snorm) * x + 0.5)
 }
 
 fn rounded_down(x: f32, snorm: bool) -> u8

@@ -5,7 +5,6 @@ pub mod Order
 pub mod ExactResult
 pub mod SignedOrder
 pub mod Casts
-pub mod ByteParts
 pub mod Signs
 pub mod WholePart
 pub mod Scan

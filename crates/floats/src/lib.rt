@@ -90,21 +90,6 @@ pub fn byte_of(x: f32) -> u8
     0
 }
 
-// The same as an f32, with no branch.
-fn whole_byte(x: f32) -> f32
-    ensures { λ r. ⌜ r ≡ whole (byteOf x) ⌝ }
-{
-    whole_part(lane_min(lane_max(x, 0.0), 255.0))
-}
-
-// By way of i32: x86-64 casts vectors of floats to signed integers only.
-pub fn byte_at_once(x: f32) -> u8
-    ensures { λ r. ⌜ r ≡ byteOf x ⌝ }
-{
-    let k = whole_byte(x) as i32;
-    k as u8
-}
-
 // A count of one, for a sum of tests.
 pub fn one_if(t: bool) -> u32
     ensures { λ r. ⌜ (r ≡ cond t 1 0) × (r ≤ 1) ⌝ }

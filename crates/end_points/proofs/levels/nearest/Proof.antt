@@ -5,11 +5,11 @@ use Rattle.end_points.proofs.levels.nearest.Tie as tie
 scale-requires : tie.Need-scale-requires
 scale-requires c κs = search needs
 
-byte-at-once-requires : tie.Need-byte-at-once-requires
-byte-at-once-requires c κs = search needs
+byte-of-requires : tie.Need-byte-of-requires
+byte-of-requires c κs = search needs
 
 returns : tie.Need-returns
-returns c = rw (c .byte-at-once .ensures, c .before .scale .ensures)
+returns c = rw (c .byte-of .ensures, c .before .scale .ensures)
 
 pub nearest-spec : {M : Type 1} → statement M
-nearest-spec = tie.close (tie.spec scale-requires byte-at-once-requires returns)
+nearest-spec = tie.close (tie.spec scale-requires byte-of-requires returns)
