@@ -18,7 +18,7 @@ use Rattle.block.proofs.Fill.{length-tabulate, getD-tabulate}
 use Rattle.end_points.specs.EndPoints.{ofBytes}
 use Rattle.palette.specs.declared.Kind.{Kind}
 use Rattle.palette.specs.declared.Kind.the-variants.{Six, Four}
-use Rattle.palette.specs.PaletteError.{rowError}
+use Rattle.palette.specs.PaletteError.{firstRowError}
 use Rattle.palette.proofs.ErrorFloor.{row-floor}
 use Rattle.encode.specs.Covered.{pairError}
 use Rattle.encode.specs.Floor.{maxFloor, maxFloors, rowFloor, Floors}
@@ -48,10 +48,10 @@ module _ (b : List Float) (min : ℕ) where
   pub pair-row : (max : ℕ) (kind : Kind) → lt (pairError kind b min max) (rowFloor b (valueOf false min) (valueOf false max)) ≡ false
   unfolding rowFloor ofBytes
   pair-row max Six =
-      not-below-lesser _ (rowError Six b (valueOf false max) (valueOf false min)) (rowError Four b (valueOf false min) (valueOf false max))
+      not-below-lesser _ (firstRowError Six b (valueOf false max) (valueOf false min)) (firstRowError Four b (valueOf false min) (valueOf false max))
       (inl (row-floor Six b (valueOf false max) (valueOf false min)))
   pair-row max Four =
-      not-below-lesser _ (rowError Six b (valueOf false max) (valueOf false min)) (rowError Four b (valueOf false min) (valueOf false max))
+      not-below-lesser _ (firstRowError Six b (valueOf false max) (valueOf false min)) (firstRowError Four b (valueOf false min) (valueOf false max))
       (inr (row-floor Four b (valueOf false min) (valueOf false max)))
 
   -- ---- as the code raises them

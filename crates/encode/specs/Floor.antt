@@ -14,7 +14,7 @@ use Rattle.block.specs.Samples.{pixelAt, tabulate, perPixel}
 use Rattle.block.specs.Orders.{sumInOrder}
 use Rattle.palette.specs.declared.Kind.{Kind}
 use Rattle.palette.specs.declared.Kind.the-variants.{Six, Four}
-use Rattle.palette.specs.PaletteError.{rowError}
+use Rattle.palette.specs.PaletteError.{firstRowError}
 use Rattle.encode.specs.Covered.{pairError}
 
 -- 1 / 4,194,304: more than what rounding moves a value beyond the ends
@@ -45,8 +45,8 @@ maxFloors b = tabulate (maxFloor b) 0 256
 -- for one pair, of its ends' floats: what the first row adds, in the mode where that is less; of a NaN a NaN
 unfoldable pub rowFloor : List Float → Float → Float → Float
 rowFloor b low high =
-    let six = rowError Six b high low in
-    let four = rowError Four b low high in
+    let six = firstRowError Six b high low in
+    let four = firstRowError Four b low high in
     cond (lt six four || ne six six) six four
 
 -- a floor for each pair with this min, by its max

@@ -70,8 +70,8 @@ pub fn max_floors(b: &[f32; 16]) -> [f32; 256]
 fn row_floor(b: &[f32; 16], low: f32, high: f32) -> f32
     ensures { λ r. ⌜ r ≡ rowFloor (now (b .entry)) low high ⌝ }
 {
-    let six = palette::row_error(Kind::Six, b, high, low);
-    let four = palette::row_error(Kind::Four, b, low, high);
+    let six = palette::first_row_error(Kind::Six, b, high, low);
+    let four = palette::first_row_error(Kind::Four, b, low, high);
     floats::pick((six < four) | (six != six), six, four)
 }
 

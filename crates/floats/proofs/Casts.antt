@@ -7,11 +7,14 @@ use native.Mathlib.Omega.{arith}
 use mathlib.Core.Bool.{Bool, true, false, _&&_, _||_, cond}
 use lib.IntN.{pos}
 use lib.Dec.{T, leb, ltb, eqb, leb→le, le→leb, eqb→eq, lit<, lit≤}
-use lib.Ieee.{Float, nan, inf, fin, up, down, lt, le, ofBits, isNan, binary32, toUnsigned, inUnsigned, inFloat}
+use lib.Ieee.{Float, nan, inf, fin, up, down, lt, le, ofBits, isNan, binary32, toUnsigned, inFloat, toSigned, inSigned}
 use lib.Ieee.Fits.{down-pos, and-r}
-use lib.Ieee.Back.{unsigned-back}
+use lib.Ieee.Back.{positive-back}
 use lib.Ieee.Nearest.{div-mono}
 use lib.Ieee.Casts.{toUnsigned-lt}
+use mir.Syntax.{w32}
+use mir.Val.{toZ, ofZ}
+use mir.ValLaws.{toZ-ofZ}
 use borrow.Author.Tests.{le-leb, lt-leb, leb-true, leb-false}
 use Rattle.floats.specs.Arithmetic.{bits, whole, f0, f1, f255, f2^23}
 use Rattle.floats.specs.Helpers.{laneMin, laneMax, byteOf, byteUpTo7}
@@ -179,12 +182,25 @@ kept-is x = go (lt f0 x) refl
     go true h = under h (lt x seven) refl
     go false h = unfold le lt toUnsigned ofBits in (refl, refl, none-of (byteOf x) (byte-empty x (not-1 (le f1 x) refl h)))
 
--- a whole number up to 7 as a float, cast back
-pub up-to-7-back : (x : Float) → T (inUnsigned binary32 32 (whole (byteUpTo7 x))) × (toUnsigned 32 (whole (byteUpTo7 x)) ≡ byteUpTo7 x)
-up-to-7-back x = unsigned-back binary32 32 (byteUpTo7 x) (few (byteOf x)) (small (byteOf x))
+-- a whole number up to 7 as a float, cast back by way of i32
+pub up-to-7-le : (x : Float) → byteUpTo7 x ≤ 7
+up-to-7-le x = capped (byteOf x)
+  where
+    capped : (n : ℕ) → min n 7 ≤ 7
+    capped n = omega arith
+
+pub up-to-7-back : (x : Float) → T (inSigned binary32 31 (whole (byteUpTo7 x))) × (toSigned 31 (whole (byteUpTo7 x)) ≡ pos (byteUpTo7 x))
+up-to-7-back x = positive-back binary32 31 (byteUpTo7 x) (few (byteOf x)) (small (byteOf x))
   where
     few : (n : ℕ) → T (inFloat binary32 (pos (min n 7)))
     few n = unfold inFloat in le→leb (min n 7) (2 ^ 24) (omega arith)
 
-    small : (n : ℕ) → min n 7 < 2 ^ 32
+    small : (n : ℕ) → min n 7 < 2 ^ 31
     small n = omega arith
+
+-- an i32 up to 7, read back from its bits
+read-back : (k : ℕ) → k ≤ 7 → toZ w32 (ofZ w32 (pos k)) ≡ pos k
+read-back k h = toZ-ofZ w32 (pos k) (record { sfits = omega arith })
+
+pub up-to-7-read : (x : Float) → toZ w32 (ofZ w32 (toSigned 31 (whole (byteUpTo7 x)))) ≡ pos (byteUpTo7 x)
+up-to-7-read x = rw (up-to-7-back x .1) (read-back (byteUpTo7 x) (up-to-7-le x))

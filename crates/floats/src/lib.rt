@@ -104,8 +104,10 @@ pub fn up_to_7(x: f32) -> f32
     whole_part(lane_min(lane_max(x, 0.0), 7.0))
 }
 
+// By way of i32: x86-64 casts four floats to signed integers at once, to unsigned ones not.
 pub fn byte_up_to_7(x: f32) -> u32
     ensures { λ r. ⌜ r ≡ byteUpTo7 x ⌝ }
 {
-    up_to_7(x) as u32
+    let k = up_to_7(x) as i32;
+    k as u32
 }

@@ -3,17 +3,14 @@ use mathlib.Core.Path.{_≡_, refl, ap₂, _∙_}
 use mathlib.Core.Logic.{⊎-elim}
 use mathlib.Core.Bool.{Bool, true, false, cond}
 use mathlib.Core.List.{List, [], _∷_}
-use Prim.Native.Nat.{ℕ, zero, suc, _+_, _*_, _-_, _^_, _≤_, _<_, min}
+use Prim.Native.Nat.{ℕ, zero, suc, _+_, _*_, _-_, _≤_, _<_, min}
 use native.Mathlib.Omega.{arith}
 use lib.ListN.{getD}
-use lib.IntN.{pos}
-use lib.Dec.{T, le→leb}
-use lib.Ieee.{Float, binary32, lt, le, neg, add, sub, mul, ofBits, ofInt, inFloat, inSigned, toSigned}
-use lib.Ieee.Back.{positive-back}
+use lib.Ieee.{Float, binary32, lt, le, neg, add, sub, mul, ofBits, ofInt}
 use lib.Ieee.Bits.{is-true}
 use lib.Ieee.Fits.{add-fits}
 use Rattle.floats.specs.Arithmetic.{_⊕_, _⊖_, _⊗_, squared, whole, f0, half, f1}
-use Rattle.floats.specs.Helpers.{absOf, byteOf, byteUpTo7}
+use Rattle.floats.specs.Helpers.{absOf, byteOf}
 use Rattle.floats.proofs.WholePart.{trunc-capped}
 use Rattle.floats.proofs.Squares.{square-abs}
 use Rattle.block.specs.Samples.{pixelAt, tabulate, perPixel}
@@ -79,16 +76,6 @@ blend7-le p x = capped (byteOf (blend p x))
   where
     capped : (n : ℕ) → min n 7 ≤ 7
     capped n = omega arith
-
--- a whole number up to 7 as a float, cast back
-pub capped-back : (x : Float) → T (inSigned binary32 31 (whole (byteUpTo7 x))) × (toSigned 31 (whole (byteUpTo7 x)) ≡ pos (byteUpTo7 x))
-capped-back x = positive-back binary32 31 (byteUpTo7 x) (few (byteOf x)) (small (byteOf x))
-  where
-    few : (n : ℕ) → T (inFloat binary32 (pos (min n 7)))
-    few n = unfold inFloat in le→leb (min n 7) (2 ^ 24) (omega arith)
-
-    small : (n : ℕ) → min n 7 < 2 ^ 31
-    small n = omega arith
 
 pub closest6-lt : (p : Inter6Palette) (x : Float) → closest6 p x .index < 8
 unfolding closest6

@@ -20,7 +20,7 @@ use Rattle.block.specs.Samples.{pixelAt, tabulate, perPixel}
 use Rattle.block.specs.Orders.{downLane, laneSum, sumInOrder}
 use Rattle.palette.specs.declared.Kind.{Kind}
 use Rattle.palette.specs.Palettes.{entry, valuesOf}
-use Rattle.palette.specs.PaletteError.{leastTo, nearerSquare, leastSquareTo, miss, paletteError, rowSum, rowError}
+use Rattle.palette.specs.PaletteError.{leastTo, nearerSquare, leastSquareTo, miss, paletteError, firstRowSum, firstRowError}
 use Rattle.palette.proofs.LeastSquare.{miss-is}
 
 -- ---- one sample
@@ -116,10 +116,10 @@ module _ (v b : List Float) where
       let one : Over (part i) (part i) = record { left = plain i; right = plain i; over = lt-irrefl (part i) } in
       grown _ (part i) (part l) (held i) (grown _ (part i) (part k) (held i) (grown _ (part i) (part j) (held i) one (plain j)) (plain k)) (plain l)
 
-  row-over : Over (sumInOrder (perPixel part)) (rowSum v b)
-  unfolding rowSum sumInOrder laneSum downLane tabulate
+  row-over : Over (sumInOrder (perPixel part)) (firstRowSum v b)
+  unfolding firstRowSum sumInOrder laneSum downLane tabulate
   row-over = four _ _ _ _ _ _ _ _ (lane 0 4 8 12) (lane 1 5 9 13) (lane 2 6 10 14) (lane 3 7 11 15)
 
-pub row-floor : (kind : Kind) (b : List Float) (c0 c1 : Float) → lt (paletteError kind b c0 c1) (rowError kind b c0 c1) ≡ false
+pub row-floor : (kind : Kind) (b : List Float) (c0 c1 : Float) → lt (paletteError kind b c0 c1) (firstRowError kind b c0 c1) ≡ false
 unfolding paletteError
 row-floor kind b c0 c1 = row-over (valuesOf kind c0 c1) b .over

@@ -35,8 +35,8 @@ unfoldable pub paletteError : Kind → List Float → Float → Float → Float
 paletteError kind b c0 c1 = sumInOrder (perPixel (λ i. miss (valuesOf kind c0 c1) (pixelAt b i)))
 
 -- the first row's part of it: no palette error is below this (`row-floor` in proofs/)
-unfoldable pub rowSum : List Float → List Float → Float
-rowSum v b = miss v (pixelAt b 0) ⊕ miss v (pixelAt b 1) ⊕ miss v (pixelAt b 2) ⊕ miss v (pixelAt b 3)
+unfoldable pub firstRowSum : List Float → List Float → Float
+firstRowSum v b = miss v (pixelAt b 0) ⊕ miss v (pixelAt b 1) ⊕ miss v (pixelAt b 2) ⊕ miss v (pixelAt b 3)
 
-abbrev pub rowError : Kind → List Float → Float → Float → Float
-rowError kind b c0 c1 = rowSum (valuesOf kind c0 c1) b
+abbrev pub firstRowError : Kind → List Float → Float → Float → Float
+firstRowError kind b c0 c1 = firstRowSum (valuesOf kind c0 c1) b

@@ -3,7 +3,7 @@ ghost use mathlib.Core.Path.{_≡_};
 ghost use Rattle.floats.specs.Arithmetic.{_⊖_, squared};
 ghost use Rattle.block.specs.Samples.{pixelAt, perPixel};
 ghost use Rattle.block.specs.Orders.{sumInOrder};
-ghost use Rattle.palette.specs.PaletteError.{nearerSquare, miss as missOf, rowSum};
+ghost use Rattle.palette.specs.PaletteError.{nearerSquare, miss as missOf, firstRowSum};
 
 fn squared_distance(value: f32, pixel: f32) -> f32
     ensures { λ r. ⌜ r ≡ squared (value ⊖ pixel) ⌝ }
@@ -42,8 +42,8 @@ pub fn sum(eight: [f32; 8], b: &[f32; 16]) -> f32
 }
 
 // What the first row adds.
-pub fn row_sum(eight: [f32; 8], b: &[f32; 16]) -> f32
-    ensures { λ r. ⌜ r ≡ rowSum eight (now (b .entry)) ⌝ }
+pub fn first_row_sum(eight: [f32; 8], b: &[f32; 16]) -> f32
+    ensures { λ r. ⌜ r ≡ firstRowSum eight (now (b .entry)) ⌝ }
 {
     miss(eight, b[0]) + miss(eight, b[1]) + miss(eight, b[2]) + miss(eight, b[3])
 }

@@ -92,12 +92,10 @@ impl Inter6Palette {
         Self::new(e.c0_f, e.c1_f)
     }
 
-    // By way of i32: x86-64 casts four floats to signed integers at once, to unsigned ones not.
     fn blend7(self, pixel: f32) -> u32
         ensures { λ r. ⌜ (r ≡ blend7Of self pixel) × (r ≤ 7) ⌝ }
     {
-        let k = floats::up_to_7(pixel * self.factor1 + self.add1) as i32;
-        k as u32
+        floats::byte_up_to_7(pixel * self.factor1 + self.add1)
     }
 
     // k counts sevenths: 8 less the index that a decoder reads.

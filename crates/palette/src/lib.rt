@@ -4,7 +4,7 @@ ghost use Prim.Native.Nat.{ℕ, _+_, _*_, _<_};
 ghost use lib.ListN.{getD};
 ghost use Rattle.index_list.specs.Indexes.{filledTo};
 ghost use Rattle.palette.specs.Palettes.{valuesOf};
-ghost use Rattle.palette.specs.PaletteError.{paletteError, rowError};
+ghost use Rattle.palette.specs.PaletteError.{paletteError, firstRowError};
 
 pub mod error;
 pub mod inter4;
@@ -82,8 +82,8 @@ pub fn palette_error(kind: Kind, b: &[f32; 16], c0: f32, c1: f32) -> f32
 }
 
 // A floor of it.
-pub fn row_error(kind: Kind, b: &[f32; 16], c0: f32, c1: f32) -> f32
-    ensures { λ r. ⌜ r ≡ rowError kind (now (b .entry)) c0 c1 ⌝ }
+pub fn first_row_error(kind: Kind, b: &[f32; 16], c0: f32, c1: f32) -> f32
+    ensures { λ r. ⌜ r ≡ firstRowError kind (now (b .entry)) c0 c1 ⌝ }
 {
-    error::row_sum(values(kind, c0, c1), b)
+    error::first_row_sum(values(kind, c0, c1), b)
 }

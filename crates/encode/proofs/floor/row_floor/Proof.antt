@@ -3,18 +3,18 @@ use borrow.Author.Needs.{needs}
 use Rattle.encode.proofs.floor.row_floor.Statement.{statement}
 use Rattle.encode.proofs.floor.row_floor.Tie as tie
 
-row-error-requires : tie.Need-row-error-requires
-row-error-requires c κs = search needs
+first-row-error-requires : tie.Need-first-row-error-requires
+first-row-error-requires c κs = search needs
 
-row-error-requires-2 : tie.Need-row-error-requires-2
-row-error-requires-2 c κs = search needs
+first-row-error-requires-2 : tie.Need-first-row-error-requires-2
+first-row-error-requires-2 c κs = search needs
 
 pick-requires : tie.Need-pick-requires
 pick-requires c κs = search needs
 
 returns : tie.Need-returns
 unfolding rowFloor
-returns c = rw (c .pick .ensures, c .before .row-error2 .ensures, c .before .before .row-error .ensures)
+returns c = rw (c .pick .ensures, c .before .first-row-error2 .ensures, c .before .before .first-row-error .ensures)
 
 pub row-floor-spec : {M : Type 1} → statement M
-row-floor-spec = tie.close (tie.spec row-error-requires row-error-requires-2 pick-requires returns)
+row-floor-spec = tie.close (tie.spec first-row-error-requires first-row-error-requires-2 pick-requires returns)

@@ -1,7 +1,7 @@
-use Rattle.palette.specs.PaletteError.{rowSum}
+use Rattle.palette.specs.PaletteError.{firstRowSum}
 use borrow.Author.Needs.{needs}
-use Rattle.palette.proofs.error.row_sum.Statement.{statement}
-use Rattle.palette.proofs.error.row_sum.Tie as tie
+use Rattle.palette.proofs.error.first_row_sum.Statement.{statement}
+use Rattle.palette.proofs.error.first_row_sum.Tie as tie
 
 element-copy-out-miss : tie.Need-element-copy-out-miss
 element-copy-out-miss c = search needs
@@ -28,11 +28,11 @@ miss-requires-4 : tie.Need-miss-requires-4
 miss-requires-4 c κs = search needs
 
 returns : tie.Need-returns
-unfolding rowSum
+unfolding firstRowSum
 returns c = cc
 
-pub row-sum-spec : {M : Type 1} → statement M
-row-sum-spec =
+pub first-row-sum-spec : {M : Type 1} → statement M
+first-row-sum-spec =
     tie.close
     (tie.spec
     element-copy-out-miss
