@@ -47,7 +47,7 @@ lane-min-requires-3 c κs = search needs
 
 returns : tie.Need-returns
 unfolding downLane
-returns c = cc
+returns c = rw (c .lane-min3 .ensures, c .before .before .lane-min2 .ensures, c .before .before .before .before .lane-min .ensures)
 
 pub lane-least-spec : {M : Type 1} → statement M
 lane-least-spec =

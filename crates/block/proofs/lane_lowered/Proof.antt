@@ -26,7 +26,7 @@ lowered-requires-4 c κs = search needs
 
 returns : tie.Need-returns
 unfolding scanLane
-returns c = cc
+returns c = rw (c .lowered4 .ensures, c .before .lowered3 .ensures, c .before .before .lowered2 .ensures, c .before .before .before .lowered .ensures)
 
 pub lane-lowered-spec : {M : Type 1} → statement M
 lane-lowered-spec =

@@ -47,7 +47,7 @@ lane-max-requires-3 c κs = search needs
 
 returns : tie.Need-returns
 unfolding downLane
-returns c = cc
+returns c = rw (c .lane-max3 .ensures, c .before .before .lane-max2 .ensures, c .before .before .before .before .lane-max .ensures)
 
 pub lane-most-spec : {M : Type 1} → statement M
 lane-most-spec =

@@ -26,7 +26,7 @@ raised-requires-4 c κs = search needs
 
 returns : tie.Need-returns
 unfolding scanLane
-returns c = cc
+returns c = rw (c .raised4 .ensures, c .before .raised3 .ensures, c .before .before .raised2 .ensures, c .before .before .before .raised .ensures)
 
 pub lane-raised-spec : {M : Type 1} → statement M
 lane-raised-spec =

@@ -21,7 +21,7 @@ max-element-requires c κs = search needs
 
 returns : tie.Need-returns
 unfolding largest element
-returns c = cc
+returns c = rw (c .max-element .ensures, c .before .lane-most4 .ensures, c .before .before .lane-most3 .ensures, c .before .before .before .lane-most2 .ensures, c .before .before .before .before .lane-most .ensures)
 
 pub largest-spec : {M : Type 1} → statement M
 largest-spec =

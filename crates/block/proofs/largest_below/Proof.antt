@@ -21,7 +21,7 @@ max-element-requires c κs = search needs
 
 returns : tie.Need-returns
 unfolding largestBelow element
-returns c = cc
+returns c = rw (c .max-element .ensures, c .before .lane-raised4 .ensures, c .before .before .lane-raised3 .ensures, c .before .before .before .lane-raised2 .ensures, c .before .before .before .before .lane-raised .ensures)
 
 pub largest-below-spec : {M : Type 1} → statement M
 largest-below-spec =

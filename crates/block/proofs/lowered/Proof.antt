@@ -23,7 +23,7 @@ lane-min-requires c κs = search needs
 
 returns : tie.Need-returns
 unfolding lowered
-returns c = cc
+returns c = rw (c .lane-min .ensures, c .before .pick .ensures)
 
 pub lowered-spec : {M : Type 1} → statement M
 lowered-spec =

@@ -12,7 +12,7 @@ lane-max-requires-3 : tie.Need-lane-max-requires-3
 lane-max-requires-3 c κs = search needs
 
 returns : tie.Need-returns
-returns c = cc
+returns c = rw (c .lane-max3 .ensures, c .before .lane-max2 .ensures, c .before .before .lane-max .ensures)
 
 pub max-element-spec : {M : Type 1} → statement M
 max-element-spec =

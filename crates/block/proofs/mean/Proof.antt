@@ -8,7 +8,7 @@ sum-in-pairs-requires c κs = search needs
 
 returns : tie.Need-returns
 unfolding mean
-returns c = cc
+returns c = rw (c .sum-in-pairs .ensures)
 
 pub mean-spec : {M : Type 1} → statement M
 mean-spec = tie.close (tie.spec sum-in-pairs-requires returns)

@@ -12,7 +12,7 @@ lane-min-requires-3 : tie.Need-lane-min-requires-3
 lane-min-requires-3 c κs = search needs
 
 returns : tie.Need-returns
-returns c = cc
+returns c = rw (c .lane-min3 .ensures, c .before .lane-min2 .ensures, c .before .before .lane-min .ensures)
 
 pub min-element-spec : {M : Type 1} → statement M
 min-element-spec =

@@ -11,7 +11,7 @@ largest-requires c κs = search needs
 
 returns : tie.Need-returns
 unfolding minMax
-returns c = cc
+returns c = rw (c .largest .ensures, c .before .smallest .ensures)
 
 pub min-max-spec : {M : Type 1} → statement M
 min-max-spec = tie.close (tie.spec smallest-requires largest-requires returns)

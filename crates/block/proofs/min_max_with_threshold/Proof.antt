@@ -11,7 +11,7 @@ largest-below-requires c κs = search needs
 
 returns : tie.Need-returns
 unfolding minMaxWithThreshold
-returns c = cc
+returns c = rw (c .largest-below .ensures, c .before .smallest-above .ensures)
 
 pub min-max-with-threshold-spec : {M : Type 1} → statement M
 min-max-with-threshold-spec =

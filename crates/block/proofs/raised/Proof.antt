@@ -23,7 +23,7 @@ lane-max-requires c κs = search needs
 
 returns : tie.Need-returns
 unfolding raised
-returns c = cc
+returns c = rw (c .lane-max .ensures, c .before .pick .ensures)
 
 pub raised-spec : {M : Type 1} → statement M
 raised-spec =

@@ -21,7 +21,7 @@ min-element-requires c κs = search needs
 
 returns : tie.Need-returns
 unfolding smallest element
-returns c = cc
+returns c = rw (c .min-element .ensures, c .before .lane-least4 .ensures, c .before .before .lane-least3 .ensures, c .before .before .before .lane-least2 .ensures, c .before .before .before .before .lane-least .ensures)
 
 pub smallest-spec : {M : Type 1} → statement M
 smallest-spec =

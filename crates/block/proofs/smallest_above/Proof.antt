@@ -21,7 +21,7 @@ min-element-requires c κs = search needs
 
 returns : tie.Need-returns
 unfolding smallestAbove element
-returns c = cc
+returns c = rw (c .min-element .ensures, c .before .lane-lowered4 .ensures, c .before .before .lane-lowered3 .ensures, c .before .before .before .lane-lowered2 .ensures, c .before .before .before .before .lane-lowered .ensures)
 
 pub smallest-above-spec : {M : Type 1} → statement M
 smallest-above-spec =

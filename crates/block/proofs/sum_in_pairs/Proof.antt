@@ -17,7 +17,7 @@ lane-sum-requires-4 c κs = search needs
 
 returns : tie.Need-returns
 unfolding sumInPairs
-returns c = cc
+returns c = rw (c .lane-sum4 .ensures, c .before .lane-sum3 .ensures, c .before .before .lane-sum2 .ensures, c .before .before .before .lane-sum .ensures)
 
 pub sum-in-pairs-spec : {M : Type 1} → statement M
 sum-in-pairs-spec =

@@ -17,7 +17,7 @@ row-dot-requires-4 c κs = search needs
 
 returns : tie.Need-returns
 unfolding sumOfSquares
-returns c = cc
+returns c = rw (c .row-dot4 .ensures, c .before .row-dot3 .ensures, c .before .before .row-dot2 .ensures, c .before .before .before .row-dot .ensures)
 
 pub sum-of-squares-spec : {M : Type 1} → statement M
 sum-of-squares-spec =
