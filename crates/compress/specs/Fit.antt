@@ -10,7 +10,8 @@ use Rattle.block.specs.Samples.{pixelAt, tabulate, perPixel}
 use Rattle.block.specs.Orders.{downLane}
 use Rattle.palette.specs.declared.inter6.Inter6Palette.{Inter6Palette}
 use Rattle.palette.specs.Palettes.{inter6Palette}
-use Rattle.palette.specs.Closest.{blend, cappedWeight}
+use Rattle.palette.specs.Closest.{blend}
+use Rattle.palette.specs.Rows.{cappedWeight}
 use Rattle.bcn_util.specs.declared.least_squares.WeightMatrix.{WeightMatrix}
 use Rattle.bcn_util.specs.LeastSquares.{fromD, orMean}
 use Rattle.compress.specs.declared.fit.Lane.{Lane}

@@ -18,7 +18,7 @@ use Rattle.block.proofs.Fill.{length-tabulate, getD-tabulate}
 use Rattle.end_points.specs.EndPoints.{ofBytes}
 use Rattle.palette.specs.declared.Kind.{Kind}
 use Rattle.palette.specs.declared.Kind.the-variants.{Six, Four}
-use Rattle.palette.specs.PaletteError.{firstRowError}
+use Rattle.palette.specs.Rows.{firstRowError}
 use Rattle.palette.proofs.ErrorFloor.{row-floor}
 use Rattle.encode.specs.Covered.{pairError}
 use Rattle.encode.specs.Floor.{maxFloor, maxFloors, rowFloor, Floors}

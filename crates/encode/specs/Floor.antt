@@ -14,7 +14,7 @@ use Rattle.block.specs.Samples.{pixelAt, tabulate, perPixel}
 use Rattle.block.specs.Orders.{sumInOrder}
 use Rattle.palette.specs.declared.Kind.{Kind}
 use Rattle.palette.specs.declared.Kind.the-variants.{Six, Four}
-use Rattle.palette.specs.PaletteError.{firstRowError}
+use Rattle.palette.specs.Rows.{firstRowError}
 use Rattle.encode.specs.Covered.{pairError}
 
 -- 1 / 4,194,304: more than what rounding moves a value beyond the ends

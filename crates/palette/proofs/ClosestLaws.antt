@@ -23,7 +23,8 @@ use Rattle.palette.specs.declared.Indexed.{Indexed}
 use Rattle.palette.specs.declared.inter4.Nearest.{Nearest}
 use Rattle.palette.specs.declared.inter6.Inter6Palette.{Inter6Palette}
 use Rattle.palette.specs.Palettes.{entry, seventh, indexMap, blended}
-use Rattle.palette.specs.Closest.{blend, blend7, index6, off6, rowCode, rowSum, weight, cappedWeight, closest6, defaultOf, nearerOf, nearestTo, closest4}
+use Rattle.palette.specs.Closest.{blend, blend7, weight, closest6, defaultOf, nearerOf, nearestTo, closest4}
+use Rattle.palette.specs.Rows.{index6, off6, rowCode, rowSum, cappedWeight}
 
 -- ---- four values
 -- a choice between two records, field by field as the code makes it

@@ -20,7 +20,8 @@ use Rattle.block.specs.Samples.{pixelAt, tabulate, perPixel}
 use Rattle.block.specs.Orders.{downLane, laneSum, sumInOrder}
 use Rattle.palette.specs.declared.Kind.{Kind}
 use Rattle.palette.specs.Palettes.{entry, valuesOf}
-use Rattle.palette.specs.PaletteError.{leastTo, nearerSquare, leastSquareTo, miss, paletteError, firstRowSum, firstRowError}
+use Rattle.palette.specs.PaletteError.{leastTo, nearerSquare, leastSquareTo, miss, paletteError}
+use Rattle.palette.specs.Rows.{firstRowSum, firstRowError}
 use Rattle.palette.proofs.LeastSquare.{miss-is}
 
 -- ---- one sample

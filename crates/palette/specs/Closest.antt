@@ -1,10 +1,10 @@
 -- The value of a palette that stands for a sample: its index, itself, and how far it is. bc4.rs, `closest`, `closest_weights4`, `block_closest`.
 use mathlib.Core.List.{List}
 use mathlib.Core.Bool.{cond}
-use Prim.Native.Nat.{ℕ, zero, suc, _+_, _*_}
+use Prim.Native.Nat.{ℕ, zero, suc}
 use lib.ListN.{getD}
 use lib.Ieee.{Float, lt, le}
-use Rattle.floats.specs.Arithmetic.{_⊕_, _⊖_, _⊗_, squared, whole, half, f1}
+use Rattle.floats.specs.Arithmetic.{_⊕_, _⊖_, _⊗_, half, f1}
 use Rattle.floats.specs.Helpers.{absOf, laneMin, truncOf, byteUpTo7}
 use Rattle.block.specs.Samples.{pixelAt, perPixel}
 use Rattle.block.specs.Orders.{sumOfSquares}
@@ -31,31 +31,9 @@ closest6 p x = record {
   error = absOf (x ⊖ blended p (blend7 p x));
 }
 
-abbrev pub index6 : Inter6Palette → Float → ℕ
-index6 p x = getD indexMap (blend7 p x) 0
-
--- the error with its sign
-abbrev pub off6 : Inter6Palette → Float → Float
-off6 p x = x ⊖ blended p (blend7 p x)
-
--- row i of a block: its indexes, three bits each, and the sum of its errors' squares
-unfoldable pub rowCode : Inter6Palette → List Float → ℕ → ℕ
-rowCode p b i =
-    let at : ℕ → ℕ = λ k. index6 p (pixelAt b k) in
-    at (4 * i) + 8 * at (4 * i + 1) + 64 * at (4 * i + 2) + 512 * at (4 * i + 3)
-
-unfoldable pub rowSum : Inter6Palette → List Float → ℕ → Float
-rowSum p b i =
-    let at : ℕ → Float = λ k. off6 p (pixelAt b k) in
-    squared (at (4 * i)) ⊕ squared (at (4 * i + 1)) ⊕ squared (at (4 * i + 2)) ⊕ squared (at (4 * i + 3))
-
 -- the weight of c1's end for the least squares. Only 7 caps the blend: below 0 it is left as it is, and the weight is over 1.
 unfoldable pub weight : Inter6Palette → Float → Float
 weight p x = f1 ⊖ truncOf (laneMin (blend p x) f7) ⊗ seventh
-
--- the same where the blend is above -1, by the cut of `closest` (`weight-above` in proofs/)
-abbrev pub cappedWeight : Inter6Palette → Float → Float
-cappedWeight p x = f1 ⊖ whole (blend7 p x) ⊗ seventh
 
 unfoldable pub weights : Inter6Palette → List Float → List Float
 weights p b = perPixel (λ i. weight p (pixelAt b i))

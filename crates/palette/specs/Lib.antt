@@ -1,3 +1,4 @@
 pub mod Palettes
 pub mod PaletteError
 pub mod Closest
+pub mod Rows

@@ -4,7 +4,7 @@
 use mathlib.Core.List.{List}
 use Prim.Native.Nat.{ℕ, zero, suc}
 use lib.Ieee.{Float}
-use Rattle.floats.specs.Arithmetic.{_⊕_, _⊖_, squared}
+use Rattle.floats.specs.Arithmetic.{_⊖_, squared}
 use Rattle.floats.specs.Helpers.{absOf, laneMin}
 use Rattle.block.specs.Samples.{pixelAt, perPixel}
 use Rattle.block.specs.Orders.{sumInOrder}
@@ -33,10 +33,3 @@ miss v p = squared (leastTo v p 7)
 
 unfoldable pub paletteError : Kind → List Float → Float → Float → Float
 paletteError kind b c0 c1 = sumInOrder (perPixel (λ i. miss (valuesOf kind c0 c1) (pixelAt b i)))
-
--- the first row's part of it: no palette error is below this (`row-floor` in proofs/)
-unfoldable pub firstRowSum : List Float → List Float → Float
-firstRowSum v b = miss v (pixelAt b 0) ⊕ miss v (pixelAt b 1) ⊕ miss v (pixelAt b 2) ⊕ miss v (pixelAt b 3)
-
-abbrev pub firstRowError : Kind → List Float → Float → Float → Float
-firstRowError kind b c0 c1 = firstRowSum (valuesOf kind c0 c1) b

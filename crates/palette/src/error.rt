@@ -3,7 +3,8 @@ ghost use mathlib.Core.Path.{_≡_};
 ghost use Rattle.floats.specs.Arithmetic.{_⊖_, squared};
 ghost use Rattle.block.specs.Samples.{pixelAt, perPixel};
 ghost use Rattle.block.specs.Orders.{sumInOrder};
-ghost use Rattle.palette.specs.PaletteError.{nearerSquare, miss as missOf, firstRowSum};
+ghost use Rattle.palette.specs.PaletteError.{nearerSquare, miss as missOf};
+ghost use Rattle.palette.specs.Rows.{firstRowSum};
 
 fn squared_distance(value: f32, pixel: f32) -> f32
     ensures { λ r. ⌜ r ≡ squared (value ⊖ pixel) ⌝ }

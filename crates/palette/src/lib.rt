@@ -4,7 +4,8 @@ ghost use Prim.Native.Nat.{ℕ, _+_, _*_, _<_};
 ghost use lib.ListN.{getD};
 ghost use Rattle.index_list.specs.Indexes.{filledTo};
 ghost use Rattle.palette.specs.Palettes.{valuesOf};
-ghost use Rattle.palette.specs.PaletteError.{paletteError, firstRowError};
+ghost use Rattle.palette.specs.PaletteError.{paletteError};
+ghost use Rattle.palette.specs.Rows.{firstRowError};
 
 pub mod error;
 pub mod inter4;

@@ -1,4 +1,4 @@
-use Rattle.palette.specs.PaletteError.{firstRowSum}
+use Rattle.palette.specs.Rows.{firstRowSum}
 use borrow.Author.Needs.{needs}
 use Rattle.palette.proofs.error.first_row_sum.Statement.{statement}
 use Rattle.palette.proofs.error.first_row_sum.Tie as tie

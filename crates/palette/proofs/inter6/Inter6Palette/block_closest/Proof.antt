@@ -7,7 +7,8 @@ use borrow.Author.Needs.{needs}
 use Rattle.index_list.specs.Indexes.{filledTo}
 use Rattle.block.specs.Samples.{pixelAt}
 use Rattle.block.proofs.Fill.{Filled, fill-start, fill-step}
-use Rattle.palette.specs.Closest.{index6, off6, rowCode, rowSum, closest6}
+use Rattle.palette.specs.Closest.{closest6}
+use Rattle.palette.specs.Rows.{index6, off6, rowCode, rowSum}
 use Rattle.palette.proofs.ClosestLaws.{row-lt, rows-code, rows-sum, sum-abs, indexed-is}
 use Rattle.palette.proofs.inter6.Inter6Palette.block_closest.Statement.{statement}
 use Rattle.palette.proofs.inter6.Inter6Palette.block_closest.Tie as tie

@@ -1,6 +1,7 @@
 use mathlib.Core.Path.{_≡_, refl}
 use native.Mathlib.Omega.{arith}
-use Rattle.palette.specs.Closest.{blend7, index6}
+use Rattle.palette.specs.Closest.{blend7}
+use Rattle.palette.specs.Rows.{index6}
 use Rattle.palette.proofs.ClosestLaws.{map-lt, blend7-le}
 use borrow.Author.Needs.{needs}
 use Rattle.palette.proofs.inter6.Inter6Palette.matched.Statement.{statement}

@@ -1,6 +1,6 @@
 use mathlib.Core.Path.{refl}
 use native.Mathlib.Omega.{arith}
-use Rattle.palette.specs.Closest.{rowCode, rowSum}
+use Rattle.palette.specs.Rows.{rowCode, rowSum}
 use borrow.Author.Needs.{needs}
 use Rattle.palette.proofs.inter6.Inter6Palette.row.Statement.{statement}
 use Rattle.palette.proofs.inter6.Inter6Palette.row.Tie as tie
