@@ -151,38 +151,44 @@ fn main() {
         ("the same, and iter_initial_inter4", [0xC8, 10, 2, 0]),
         ("brute_force", [4, 0, 0, 0]),
     ];
-    for (name, w) in steps {
+    // In turn, so that a change of the processor's speed meets all of them.
+    let mut times = vec![[vec![], vec![]]; steps.len()];
+    for _ in 0..runs {
+        for ((_, w), t) in steps.iter().zip(&mut times) {
+            for (set, t) in [&random, &smooth].into_iter().zip(t) {
+                t.push(time(if w[0] == 4 { &set[..20.min(n)] } else { set }, u32::from_le_bytes(*w)));
+            }
+        }
+    }
+    for ((name, w), t) in steps.iter().zip(&mut times) {
         print!("{name:44}");
-        for set in [&random, &smooth] {
-            let (ns, off) = bought(set, *w, if w[0] == 4 { 1 } else { runs });
-            print!("{ns:12.0}{off:12.2}");
+        for (set, t) in [&random, &smooth].into_iter().zip(t) {
+            t.sort_by(f64::total_cmp);
+            print!("{:12.0}{:12.2}", t[runs / 2], error(set, u32::from_le_bytes(*w)));
         }
         println!();
     }
 }
 
-/// The median time of a block, and how far its decoded samples are from those that were handed in.
-fn bought(set: &[[f32; 16]], word: [u8; 4], runs: usize) -> (f64, f64) {
-    let (word, snorm) = (u32::from_le_bytes(word), word[0] & 2 != 0);
-    let mut t: Vec<f64> = (0..runs)
-        .map(|_| {
-            let start = cpu_ns();
-            set.iter().for_each(|b| {
-                black_box(ours(black_box(b), black_box(word)));
-            });
-            (cpu_ns() - start) / set.len() as f64
-        })
-        .collect();
-    t.sort_by(f64::total_cmp);
+fn time(set: &[[f32; 16]], word: u32) -> f64 {
+    let start = cpu_ns();
+    set.iter().for_each(|b| {
+        black_box(ours(black_box(b), black_box(word)));
+    });
+    (cpu_ns() - start) / set.len() as f64
+}
+
+/// How far the decoded samples are from those that were handed in; unsigned.
+fn error(set: &[[f32; 16]], word: u32) -> f64 {
     let sum: f64 = set
         .iter()
         .map(|b| {
             let (block, mut error, mut nan) = (ours(b, word).to_le_bytes(), 0.0, 0);
-            assert!(unsafe { bc4_block_error(b.as_ptr(), 16, block.as_ptr(), 8, snorm, &mut error, &mut nan) } == 0);
+            assert!(unsafe { bc4_block_error(b.as_ptr(), 16, block.as_ptr(), 8, false, &mut error, &mut nan) } == 0);
             error as f64
         })
         .sum();
-    (t[runs / 2], 1000.0 * (sum / (16 * set.len()) as f64).sqrt())
+    1000.0 * (sum / (16 * set.len()) as f64).sqrt()
 }
 
 /// A tile of 1,024 by 1,024: encoded by one call beside the Rust block by block, and decoded block by block, each to its own place, beside a plain decoder in C.
