@@ -1,5 +1,2 @@
-pub mod Nans
-pub mod Lowest
-pub mod Views
 pub mod Resends
 pub mod Determined

@@ -10,10 +10,10 @@ use Rattle.refine.specs.declared.options.Options.{Options}
 use Rattle.encode.specs.Encoder.{compressed}
 use Rattle.decode.specs.Meaning.{decoded}
 use Rattle.decode.specs.BlockError.{blockError}
-use Rattle.tile.specs.Place.{along, encodedLength, blockAt}
+use Rattle.place.specs.Place.{along, encodedLength, blockAt}
 use Rattle.tile.specs.Tile.{tileBytes}
-use Rattle.bc4.specs.declared.refusal.Checked.{Checked}
-use Rattle.bc4.specs.declared.refusal.Checked.the-variants.{Passed, Refused}
+use Rattle.refusal.specs.declared.Checked.{Checked}
+use Rattle.refusal.specs.declared.Checked.the-variants.{Passed, Refused}
 use Rattle.bc4.specs.declared.Encoded.{Encoded}
 use Rattle.bc4.specs.declared.Encoded.the-variants.{Block, Refused as NotEncoded}
 use Rattle.bc4.specs.declared.Scored.{Scored}
@@ -23,7 +23,7 @@ use Rattle.bc4.specs.declared.Resent.{Resent}
 use Rattle.bc4.specs.declared.Resent.the-variants.{Block as Answered, Refused as NotResent}
 use Rattle.bc4.specs.declared.Tiled.{Tiled}
 use Rattle.bc4.specs.declared.Tiled.the-variants.{Written, Refused as NotTiled}
-use Rattle.bc4.specs.Refusals.{lowest, encodeChecks, errorChecks, resendChecks, tileChecks, viewChecks}
+use Rattle.refusal.specs.Refusals.{lowest, encodeChecks, errorChecks, resendChecks, tileChecks, viewChecks}
 
 -- ---- the refusal of an answer, or none
 abbrev pub ofEncoded : Encoded → Checked

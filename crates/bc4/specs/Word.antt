@@ -12,12 +12,12 @@ use lib.Ieee.{Float}
 use Rattle.refine.specs.declared.options.Options.{Options}
 use Rattle.refine.specs.declared.options.Quantization.{Quantization}
 use Rattle.refine.specs.declared.options.Quantization.the-variants.{Round, MediumQuality, HighQuality}
-use Rattle.bc4.specs.declared.refusal.Refusal.the-variants.{WordMalformed}
+use Rattle.refusal.specs.declared.Refusal.the-variants.{WordMalformed}
 use Rattle.bc4.specs.declared.word.Word.{Word}
 use Rattle.bc4.specs.declared.Encoded.{Encoded}
 use Rattle.bc4.specs.declared.Resent.{Resent}
 use Rattle.bc4.specs.declared.Tiled.{Tiled}
-use Rattle.bc4.specs.Refusals.{Check, when, lowest, encodeChecks, resendChecks, tileChecks}
+use Rattle.refusal.specs.Refusals.{Check, when, lowest, encodeChecks, resendChecks, tileChecks}
 use Rattle.bc4.specs.Calls.{encodedOn, resentOn, tiledOn}
 
 -- whether bit k of the flags is set

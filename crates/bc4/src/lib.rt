@@ -3,10 +3,9 @@
 ghost use mathlib.Core.Path.{_≡_};
 ghost use lib.ListN.{length};
 ghost use Rattle.index_list.specs.Layout.{bytesOf};
-ghost use Rattle.bc4.specs.Refusals.{lowest, decodeChecks, viewChecks};
+ghost use Rattle.refusal.specs.Refusals.{lowest, decodeChecks, viewChecks};
 ghost use Rattle.bc4.specs.Calls.{encodeAnswer, samplesAfter, errorAnswer, betterOf, resendAnswer, tileAnswer, outAfter, viewOf};
 
-pub mod refusal;
 pub mod word;
 
 use refine::options::Options;
@@ -52,7 +51,7 @@ fn sixteen(samples: &[f32]) -> [f32; 16]
     requires { ⌜ length (now samples) ≡ 16 ⌝ }
     ensures { λ r. ⌜ r ≡ now (samples .entry) ⌝ }
 {
-    tile::gather(samples, 4, 0, 0)
+    place::gather(samples, 4, 0, 0)
 }
 
 pub fn encode_block(samples: &[f32], o: Options) -> Encoded

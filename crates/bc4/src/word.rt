@@ -6,7 +6,6 @@ ghost use Rattle.bc4.specs.Word.{optionsOf, qualityOf, wordOf, encodeByW
 use crate::Encoded;
 use crate::Resent;
 use crate::Tiled;
-use crate::refusal;
 use refine::options::Options;
 use refine::options::Quantization;
 

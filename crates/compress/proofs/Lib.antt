@@ -2,5 +2,3 @@ pub mod Places
 pub mod AfterEntry
 pub mod Counting
 pub mod SortedSixteen
-pub mod LaneFill
-pub mod FitLaws

@@ -12,8 +12,8 @@ use Rattle.refine.specs.declared.options.Options.{Options}
 use Rattle.refine.specs.declared.rounds.Held.{Held}
 use Rattle.refine.specs.Rounds.{held}
 use Rattle.refine.specs.Refining.{refinedEnds}
-use Rattle.compress.specs.declared.coding.Coded.{Coded}
-use Rattle.compress.specs.Coding.{coded4}
+use Rattle.coding.specs.declared.Coded.{Coded}
+use Rattle.coding.specs.Coding.{coded4}
 use Rattle.compress.specs.Sorted.{placed, placeOf}
 
 -- both ends are further than an eighth from 0 and 1, so that no sample gains by being left to these two values

@@ -3,21 +3,15 @@ use mathlib.Core.List.{List}
 use mathlib.Core.Bool.{cond}
 use lib.Ieee.{Float, lt}
 use Rattle.floats.specs.Arithmetic.{_⊕_, _⊖_, _⊗_, bits, f0, f1}
-use Rattle.floats.specs.Helpers.{minOf, maxOf, clampOf}
+use Rattle.floats.specs.Helpers.{minOf, maxOf}
 use Rattle.floats.specs.declared.Pair.{Pair}
 use Rattle.block.specs.Block.{mean}
 use Rattle.palette.specs.declared.Kind.the-variants.{Six}
-use Rattle.palette.specs.Palettes.{inter6Palette}
-use Rattle.palette.specs.Closest.{weights}
-use Rattle.bcn_util.specs.LeastSquares.{leastSquares}
 use Rattle.refine.specs.declared.options.Options.{Options}
 use Rattle.refine.specs.Refining.{refinedEnds}
-use Rattle.compress.specs.declared.coding.Coded.{Coded}
-use Rattle.compress.specs.Coding.{coded6}
-
--- One fit. It hands back the end of weight 1 first, so that after the first of two fits min and max have changed places.
-unfoldable pub fitted : List Float → Pair → Pair
-fitted b p = let q = leastSquares b (weights (inter6Palette (p .0) (p .1)) b) in record { 0 = clampOf (q .0); 1 = clampOf (q .1) }
+use Rattle.fit.specs.Fit.{fitted}
+use Rattle.coding.specs.declared.Coded.{Coded}
+use Rattle.coding.specs.Coding.{coded6}
 
 unfoldable pub compressedFrom : List Float → Options → Pair → Coded
 compressedFrom b o p = coded6 b (o .snorm) (o .dither) (refinedEnds Six b o (fitted b (fitted b p)))

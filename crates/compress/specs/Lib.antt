@@ -1,5 +1,3 @@
-pub mod Coding
 pub mod Inter6
-pub mod Fit
 pub mod Sorted
 pub mod Inter4

@@ -2,7 +2,7 @@
 ghost use mathlib.Core.Path.{_≡_};
 ghost use Prim.Native.Nat.{_<_};
 ghost use Rattle.compress.specs.Inter4.{far as farOf, upward as upwardOf, candidate as candidateOf, walked as walkedOf, reassigned, firstEnds, compressInter4};
-use crate::coding::Coded;
+use coding::Coded;
 use floats::Pair;
 use palette::Kind;
 use refine::options::Options;
@@ -95,5 +95,5 @@ pub fn compress_inter4(b: &[f32; 16], o: Options) -> Coded
     let p = block::min_max_with_threshold(b, BC4_MIN_VALUE);
     let first = first_ends(b, o.iter_initial_inter4, p);
     let ends = refine::refine_endpoints(Kind::Four, b, first.0, first.1, o);
-    crate::coding::coded4(b, o.snorm, o.dither, ends)
+    coding::coded4(b, o.snorm, o.dither, ends)
 }

@@ -1,7 +1,7 @@
 // compress_inter6.
 ghost use mathlib.Core.Path.{_≡_};
 ghost use Rattle.compress.specs.Inter6.{compressedFrom, nudged as nudgedOf, nudgedPair, five as fiveOf, smaller as smallerOf, compressInter6};
-use crate::coding::Coded;
+use coding::Coded;
 use floats::Pair;
 use palette::Kind;
 use refine::options::Options;
@@ -10,9 +10,9 @@ use refine::options::Options;
 fn compressed_from(b: &[f32; 16], p: Pair, o: Options) -> Coded
     ensures { λ r. ⌜ r ≡ compressedFrom (now (b .entry)) o p ⌝ }
 {
-    let fit = crate::fit::fitted_twice(b, p);
-    let ends = refine::refine_endpoints(Kind::Six, b, fit.0, fit.1, o);
-    crate::coding::coded6(b, o.snorm, o.dither, ends)
+    let fitted = fit::fitted_twice(b, p);
+    let ends = refine::refine_endpoints(Kind::Six, b, fitted.0, fitted.1, o);
+    coding::coded6(b, o.snorm, o.dither, ends)
 }
 
 fn nudged(mean: f32, x: f32) -> f32

@@ -1,6 +1,4 @@
 // bc4.rs: the two compressions of a block.
-pub mod coding;
-mod fit;
 pub mod inter4;
 pub mod inter6;
 pub mod sorted;

@@ -12,10 +12,10 @@ use lib.Ieee.{Float, isNan}
 use borrow.Author.Tests.{lt-ltb, ltb-true, le-leb, leb-true, eq-eqb, eqb-true, ne-eqb, eqb-false, not-true}
 use Rattle.floats.proofs.Tests.{clash}
 use Rattle.block.specs.Samples.{pixelAt}
-use Rattle.tile.specs.Place.{longestSide, badSide, badSize, along, noBlock}
-use Rattle.bc4.specs.declared.refusal.Refusal.{Refusal}
-use Rattle.bc4.specs.declared.refusal.Refusal.the-variants.{SampleIsNan}
-use Rattle.bc4.specs.Refusals.{Check, firstNan}
+use Rattle.place.specs.Place.{longestSide, badSide, badSize, along, noBlock}
+use Rattle.refusal.specs.declared.Refusal.{Refusal}
+use Rattle.refusal.specs.declared.Refusal.the-variants.{SampleIsNan}
+use Rattle.refusal.specs.Refusals.{Check, firstNan}
 use Rattle.demands.specs.Demand1.{BadSide, Missing, LowestNan, WhenNan, Iff}
 use Rattle.demands.proofs.Refusing.{Has}
 

@@ -7,10 +7,10 @@ use lib.Dec.{lit<}
 use lib.ListN.{length}
 use lib.Ieee.{Float}
 use Rattle.refine.specs.declared.options.Options.{Options}
-use Rattle.bc4.specs.declared.refusal.Refusal.{Refusal}
-use Rattle.bc4.specs.declared.refusal.Checked.{Checked}
-use Rattle.bc4.specs.declared.refusal.Checked.the-variants.{Passed, Refused}
-use Rattle.bc4.specs.Refusals.{lowest, encodeChecks, decodeChecks, errorChecks, resendChecks, tileChecks, viewChecks}
+use Rattle.refusal.specs.declared.Refusal.{Refusal}
+use Rattle.refusal.specs.declared.Checked.{Checked}
+use Rattle.refusal.specs.declared.Checked.the-variants.{Passed, Refused}
+use Rattle.refusal.specs.Refusals.{lowest, encodeChecks, decodeChecks, errorChecks, resendChecks, tileChecks, viewChecks}
 use Rattle.bc4.specs.Word.{andWord}
 use Rattle.bc4.specs.Calls.{ofEncoded, ofScored, ofResent, ofTiled, encodedOn, samplesAfter, scoredOn, resentOn, tiledOn, outAfter, viewOn}
 use Rattle.demands.specs.Demand1.{Exactly, Demand1, EncodeRefuses, DecodeRefuses, ErrorRefuses, ResendRefuses, TileRefuses, ViewRefuses, RecordRefuses}

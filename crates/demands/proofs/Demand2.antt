@@ -13,21 +13,21 @@ use Rattle.block.specs.Samples.{pixelAt}
 use Rattle.refine.specs.declared.options.Options.{Options}
 use Rattle.encode.specs.Encoder.{compressed}
 use Rattle.decode.proofs.Bound.{decoded-close}
-use Rattle.tile.specs.Place.{along, encodedLength, blockAt}
-use Rattle.tile.specs.Tile.{blockOf, tileBytes}
-use Rattle.tile.proofs.Places.{rows-length, block-within}
+use Rattle.place.specs.Place.{along, encodedLength, blockAt, blockOf}
+use Rattle.tile.specs.Tile.{tileBytes}
+use Rattle.place.proofs.Places.{rows-length, block-within}
 use Rattle.tile.proofs.Stretches.{tile-length}
 use Rattle.tile.proofs.Blocks.{in-first, tile-block}
-use Rattle.tile.proofs.Samples.{blockOf-length, blockOf-real}
-use Rattle.bc4.specs.declared.refusal.Refusal.{Refusal}
-use Rattle.bc4.specs.declared.refusal.Checked.{Checked}
-use Rattle.bc4.specs.declared.refusal.Checked.the-variants.{Passed, Refused}
+use Rattle.place.proofs.Samples.{blockOf-length, blockOf-real}
+use Rattle.refusal.specs.declared.Refusal.{Refusal}
+use Rattle.refusal.specs.declared.Checked.{Checked}
+use Rattle.refusal.specs.declared.Checked.the-variants.{Passed, Refused}
 use Rattle.bc4.specs.declared.Encoded.the-variants.{Block}
 use Rattle.bc4.specs.declared.Tiled.{Tiled}
 use Rattle.bc4.specs.declared.Tiled.the-variants.{Written, Refused as NotTiled}
-use Rattle.bc4.specs.Refusals.{lowest, encodeChecks, tileChecks}
+use Rattle.refusal.specs.Refusals.{lowest, encodeChecks, tileChecks}
 use Rattle.bc4.specs.Calls.{ofTiled, encodedOn, encodeAnswer, samplesAfter, tiledOn, outAfter}
-use Rattle.bc4.proofs.Lowest.{apart, Clear, lowest-clear, same-of}
+use Rattle.refusal.proofs.Lowest.{apart, Clear, lowest-clear, same-of}
 use Rattle.demands.specs.Demand1.{EncodeRefuses}
 use Rattle.demands.specs.Demand2.{Demand2}
 use Rattle.demands.proofs.Conditions.{nan-free}

@@ -29,14 +29,15 @@ use Rattle.refine.proofs.Rounding.{medium-no-larger, high-no-larger}
 use Rattle.compress.specs.Inter6.{compressedFrom, compressInter6}
 use Rattle.compress.specs.Inter4.{compressInter4}
 use Rattle.encode.specs.Encoder.{searches, compressed}
-use Rattle.encode.specs.Covered.{Covered, pairError, Written}
-use Rattle.encode.proofs.Covered.{search-written, search-none-smaller, search-finite, compressed-searched}
+use Rattle.search.specs.Covered.{Covered, pairError, Written}
+use Rattle.search.proofs.Covered.{search-written, search-none-smaller, search-finite}
+use Rattle.encode.proofs.Searched.{compressed-searched}
 use Rattle.decode.specs.BlockError.{blockError}
 use Rattle.decode.proofs.Laws.{error-of-bytes}
 use Rattle.decode.proofs.Finite.{blockError-within}
-use Rattle.bc4.specs.declared.refusal.Checked.{Checked}
-use Rattle.bc4.specs.declared.refusal.Checked.the-variants.{Passed, Refused}
-use Rattle.bc4.specs.Refusals.{lowest, resendChecks}
+use Rattle.refusal.specs.declared.Checked.{Checked}
+use Rattle.refusal.specs.declared.Checked.the-variants.{Passed, Refused}
+use Rattle.refusal.specs.Refusals.{lowest, resendChecks}
 use Rattle.bc4.specs.Calls.{betterOf, resentOn, resendAnswer}
 use Rattle.bc4.proofs.Resends.{stays-or-replaced}
 use Rattle.demands.specs.Demand3.{errorOf, endsUnder, Limits, NoLarger, heldAfter, series, AllIn, StaysOrBetter, Demand3}

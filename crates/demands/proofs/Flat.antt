@@ -13,7 +13,7 @@ use Rattle.block.specs.Block.{entered, smallest, largest, minMax}
 use Rattle.values.specs.Values.{levelValue}
 use Rattle.index_list.specs.Indexes.{filledTo}
 use Rattle.refine.specs.declared.options.Options.{Options}
-use Rattle.encode.specs.Single.{epsilon, uniform, singleColor}
+use Rattle.single.specs.Single.{epsilon, uniform, singleColor}
 use Rattle.encode.specs.Encoder.{searches, middle, encoded, compressed}
 
 pub flat-encoded : (s : List Float) (o : Options) (p : Pair) → minMax (entered s) ≡ p → searches o ≡ false → lt (p .1 ⊖ p .0) epsilon ≡ true

@@ -6,11 +6,11 @@ use mathlib.Core.List.{List, [], _∷_}
 use Prim.Native.Nat.{ℕ, _<_, _≤_}
 use native.Mathlib.Omega.{arith}
 use Rattle.floats.proofs.Tests.{clash}
-use Rattle.bc4.specs.declared.refusal.Refusal.{Refusal}
-use Rattle.bc4.specs.declared.refusal.Checked.{Checked}
-use Rattle.bc4.specs.declared.refusal.Checked.the-variants.{Passed, Refused}
-use Rattle.bc4.specs.Refusals.{numberOf, Check, lowest}
-use Rattle.bc4.proofs.Lowest.{apart}
+use Rattle.refusal.specs.declared.Refusal.{Refusal}
+use Rattle.refusal.specs.declared.Checked.{Checked}
+use Rattle.refusal.specs.declared.Checked.the-variants.{Passed, Refused}
+use Rattle.refusal.specs.Refusals.{numberOf, Check, lowest}
+use Rattle.refusal.proofs.Lowest.{apart}
 use Rattle.demands.specs.Demand1.{Iff, Exactly}
 
 -- a check of the list is for q, and applies

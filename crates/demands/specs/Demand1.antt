@@ -10,12 +10,12 @@ use lib.ListN.{length}
 use lib.Ieee.{Float, isNan}
 use Rattle.block.specs.Samples.{pixelAt}
 use Rattle.refine.specs.declared.options.Options.{Options}
-use Rattle.bc4.specs.declared.refusal.Refusal.{Refusal}
-use Rattle.bc4.specs.declared.refusal.Refusal.the-variants.{Size, SampleCount, EncodedLength, OutputLength, DitheredResend, NoSuchBlock, SampleIsNan, WordMalformed}
-use Rattle.bc4.specs.declared.refusal.Checked.{Checked}
-use Rattle.bc4.specs.declared.refusal.Checked.the-variants.{Passed, Refused}
+use Rattle.refusal.specs.declared.Refusal.{Refusal}
+use Rattle.refusal.specs.declared.Refusal.the-variants.{Size, SampleCount, EncodedLength, OutputLength, DitheredResend, NoSuchBlock, SampleIsNan, WordMalformed}
+use Rattle.refusal.specs.declared.Checked.{Checked}
+use Rattle.refusal.specs.declared.Checked.the-variants.{Passed, Refused}
 use Rattle.bc4.specs.declared.Tiled.the-variants.{Refused as NotTiled}
-use Rattle.bc4.specs.Refusals.{numberOf, lowest, decodeChecks, viewChecks}
+use Rattle.refusal.specs.Refusals.{numberOf, lowest, decodeChecks, viewChecks}
 use Rattle.bc4.specs.declared.word.Word.{Word}
 use Rattle.bc4.specs.Word.{encodeByWord}
 use Rattle.bc4.specs.Calls.{ofEncoded, ofScored, ofResent, ofTiled, encodeAnswer, samplesAfter, errorAnswer, resendAnswer, tileAnswer, outAfter, viewOf}

@@ -12,12 +12,11 @@ use Rattle.refine.specs.declared.options.Options.{Options}
 use Rattle.encode.specs.Encoder.{compressed}
 use Rattle.decode.specs.Meaning.{blockIndex}
 use Rattle.decode.specs.Exact.{exactNum, exactDen, Close}
-use Rattle.tile.specs.Place.{along, blockAt}
-use Rattle.tile.specs.Tile.{blockOf}
-use Rattle.bc4.specs.declared.refusal.Checked.the-variants.{Passed}
+use Rattle.place.specs.Place.{along, blockAt, blockOf}
+use Rattle.refusal.specs.declared.Checked.the-variants.{Passed}
 use Rattle.bc4.specs.declared.Encoded.the-variants.{Block}
 use Rattle.bc4.specs.declared.Tiled.the-variants.{Written}
-use Rattle.bc4.specs.Refusals.{lowest, encodeChecks}
+use Rattle.refusal.specs.Refusals.{lowest, encodeChecks}
 use Rattle.bc4.specs.Calls.{encodeAnswer, samplesAfter, tileAnswer, outAfter}
 
 pub record Demand2 : Type 0 where

@@ -17,11 +17,12 @@ use Rattle.refine.specs.declared.options.Options.{Options}
 use Rattle.refine.specs.declared.options.Quantization.the-variants.{MediumQuality, HighQuality}
 use Rattle.refine.specs.Rounds.{refined}
 use Rattle.refine.specs.Refining.{firstStep, leastStep, quantizedPair, quantizing}
-use Rattle.compress.specs.Coding.{coded6, coded4}
-use Rattle.compress.specs.Inter6.{fitted, nudgedPair, five, smaller, compressInter6}
+use Rattle.coding.specs.Coding.{coded6, coded4}
+use Rattle.fit.specs.Fit.{fitted}
+use Rattle.compress.specs.Inter6.{nudgedPair, five, smaller, compressInter6}
 use Rattle.compress.specs.Inter4.{firstEnds, compressInter4}
 use Rattle.encode.specs.Encoder.{searches, compressed}
-use Rattle.encode.specs.Covered.{Covered, pairError, Written}
+use Rattle.search.specs.Covered.{Covered, pairError, Written}
 use Rattle.decode.specs.BlockError.{blockError}
 use Rattle.bc4.specs.declared.Resent.{Resent}
 use Rattle.bc4.specs.declared.Resent.the-variants.{Block as Answered, Refused as NotResent}

@@ -1,8 +1,2 @@
-pub mod Steps
 pub mod Middle
-pub mod Between
-pub mod EveryPair
-pub mod PassedOver
-pub mod FirstRow
-pub mod Start
-pub mod Covered
+pub mod Searched

@@ -7,11 +7,11 @@ use Rattle.floats.specs.Arithmetic.{_⊕_, _⊖_, _⊗_, bits, f0, f1, half}
 use Rattle.floats.specs.declared.Pair.{Pair}
 use Rattle.block.specs.Block.{entered, minMax}
 use Rattle.refine.specs.declared.options.Options.{Options}
-use Rattle.compress.specs.declared.coding.Coded.{Coded}
+use Rattle.coding.specs.declared.Coded.{Coded}
 use Rattle.compress.specs.Inter6.{compressInter6}
 use Rattle.compress.specs.Inter4.{compressInter4}
-use Rattle.encode.specs.Single.{epsilon, singleColor}
-use Rattle.encode.specs.Search.{searched}
+use Rattle.single.specs.Single.{epsilon, singleColor}
+use Rattle.search.specs.Search.{searched}
 
 -- the exhaustive search applies
 abbrev pub searches : Options → Bool

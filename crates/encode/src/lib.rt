@@ -4,12 +4,7 @@ ghost use Rattle.encode.specs.Encoder.{searches as searchesOf, amid as a
 ghost use mathlib.Core.Bool.{true};
 ghost use lib.Ieee.{le};
 ghost use Rattle.floats.specs.Arithmetic.{f0, f1};
-
-mod floor;
-mod search;
-mod single;
-
-use compress::coding::Coded;
+use coding::Coded;
 use floats::Pair;
 use refine::options::Options;
 

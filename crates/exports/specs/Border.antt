@@ -5,11 +5,11 @@ use mathlib.Core.List.{List}
 use Prim.Native.Nat.{ℕ, _/_, _%_, _^_}
 use lib.Ieee.{Float}
 use Rattle.index_list.specs.Layout.{bytesOf}
-use Rattle.tile.specs.Place.{blockAt}
-use Rattle.bc4.specs.declared.refusal.Refusal.{Refusal}
-use Rattle.bc4.specs.declared.refusal.Refusal.the-variants.{Size, SampleCount, EncodedLength, OutputLength, DitheredResend, NoSuchBlock, SampleIsNan, WordMalformed}
-use Rattle.bc4.specs.declared.refusal.Checked.{Checked}
-use Rattle.bc4.specs.declared.refusal.Checked.the-variants.{Passed, Refused}
+use Rattle.place.specs.Place.{blockAt}
+use Rattle.refusal.specs.declared.Refusal.{Refusal}
+use Rattle.refusal.specs.declared.Refusal.the-variants.{Size, SampleCount, EncodedLength, OutputLength, DitheredResend, NoSuchBlock, SampleIsNan, WordMalformed}
+use Rattle.refusal.specs.declared.Checked.{Checked}
+use Rattle.refusal.specs.declared.Checked.the-variants.{Passed, Refused}
 use Rattle.bc4.specs.declared.word.Word.{Word}
 use Rattle.bc4.specs.declared.Encoded.{Encoded}
 use Rattle.bc4.specs.declared.Encoded.the-variants.{Block, Refused as NotEncoded}
@@ -20,7 +20,7 @@ use Rattle.bc4.specs.declared.Resent.{Resent}
 use Rattle.bc4.specs.declared.Resent.the-variants.{Block as Answered, Refused as NotResent}
 use Rattle.bc4.specs.declared.Tiled.{Tiled}
 use Rattle.bc4.specs.declared.Tiled.the-variants.{Written, Refused as NotTiled}
-use Rattle.bc4.specs.Refusals.{numberOf}
+use Rattle.refusal.specs.Refusals.{numberOf}
 use Rattle.bc4.specs.Word.{wordOf, encodeByWord, resendByWord, tileByWord}
 
 -- the options word, byte 0 lowest

@@ -7,7 +7,7 @@ use lib.Dec.{eqb}
 use lib.ListN.{length, take, drop}
 use Rattle.bc4.specs.declared.Encoded.{Encoded}
 use Rattle.bc4.specs.declared.Encoded.the-variants.{Block, Refused}
-use Rattle.bc4.specs.Refusals.{numberOf}
+use Rattle.refusal.specs.Refusals.{numberOf}
 use Rattle.bc4.specs.Word.{encodeByWord}
 use Rattle.lines.specs.Input.{wordIn, samplesOf}
 use Rattle.lines.specs.Output.{hexLine, refusedLine, shortLine}

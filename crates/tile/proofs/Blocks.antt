@@ -11,9 +11,9 @@ use lib.Ieee.{Float}
 use Rattle.index_list.specs.Layout.{bytesOf}
 use Rattle.refine.specs.declared.options.Options.{Options}
 use Rattle.encode.specs.Encoder.{compressed}
-use Rattle.tile.specs.Place.{along, rowLength, blockAt}
-use Rattle.tile.specs.Tile.{blockOf, rowBytes, tileBytes}
-use Rattle.tile.proofs.Places.{fits}
+use Rattle.place.specs.Place.{along, rowLength, blockAt, blockOf}
+use Rattle.tile.specs.Tile.{rowBytes, tileBytes}
+use Rattle.place.proofs.Places.{fits}
 use Rattle.tile.proofs.Stretches.{row-length, tile-length}
 
 -- eight bytes that lie in the first list, and eight that lie in the second

@@ -1,4 +1,2 @@
-pub mod Places
 pub mod Stretches
 pub mod Blocks
-pub mod Samples

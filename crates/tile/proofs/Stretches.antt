@@ -12,8 +12,8 @@ use borrow.Rule.Slice.PartMut.{putMid}
 use Rattle.index_list.specs.Layout.{bytesOf}
 use Rattle.refine.specs.declared.options.Options.{Options}
 use Rattle.encode.specs.Encoder.{compressed}
-use Rattle.tile.specs.Place.{along, rowLength}
-use Rattle.tile.specs.Tile.{blockOf, rowBytes, tileBytes}
+use Rattle.place.specs.Place.{along, rowLength, blockOf}
+use Rattle.tile.specs.Tile.{rowBytes, tileBytes}
 
 -- n bytes are done, the next m were lent and come back as `new`
 grown : (done new old out : List ℕ) (n m : ℕ) → length done ≡ n → out ≡ done ++ drop n old → putMid n (n + m - n) out new ≡ (done ++ new) ++ drop (n + m) old

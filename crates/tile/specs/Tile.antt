@@ -1,21 +1,12 @@
 -- Document 01, "Calls and numbers": the bytes of a tile. Samples are row-major, blocks go row by row from the top left, and each block is
 -- what the block call gives for its own sixteen samples.
 use mathlib.Core.List.{List, [], _++_}
-use Prim.Native.Nat.{ℕ, zero, suc, _+_, _*_, _/_, _%_}
+use Prim.Native.Nat.{ℕ, zero, suc}
 use lib.Ieee.{Float}
 use Rattle.index_list.specs.Layout.{bytesOf}
-use Rattle.block.specs.Samples.{pixelAt, perPixel}
 use Rattle.refine.specs.declared.options.Options.{Options}
 use Rattle.encode.specs.Encoder.{compressed}
-use Rattle.tile.specs.Place.{along}
-
--- where pixel i of a block stands among the samples
-abbrev pub sampleIndex : ℕ → ℕ → ℕ → ℕ → ℕ
-sampleIndex width column row i = (4 * row + i / 4) * width + (4 * column + i % 4)
-
--- a block's own sixteen samples
-unfoldable pub blockOf : List Float → ℕ → ℕ → ℕ → List Float
-blockOf samples width column row = perPixel (λ i. pixelAt samples (sampleIndex width column row i))
+use Rattle.place.specs.Place.{along, blockOf}
 
 -- the bytes of the first n blocks of a row
 unfoldable pub rowBytes : List Float → ℕ → Options → ℕ → ℕ → List ℕ

@@ -2,37 +2,11 @@
 // asked for here.
 ghost use mathlib.Core.Path.{_≡_};
 ghost use mathlib.Core.List.{_++_};
-ghost use Prim.Native.Nat.{_+_, _*_, _<_, _≤_};
+ghost use Prim.Native.Nat.{_+_, _*_, _≤_};
 ghost use lib.ListN.{length, drop};
-ghost use Rattle.tile.specs.Place.{longestSide, badSide, badSize, along, rowLength};
-ghost use Rattle.tile.specs.Tile.{blockOf, rowBytes, tileBytes};
+ghost use Rattle.place.specs.Place.{longestSide, along, rowLength};
+ghost use Rattle.tile.specs.Tile.{rowBytes, tileBytes};
 use refine::options::Options;
-
-const LONGEST_SIDE: usize = 1024;
-
-fn bad_side(n: usize) -> bool
-    ensures { λ r. ⌜ r ≡ badSide n ⌝ }
-{
-    (n == 0) | (LONGEST_SIDE < n) | (n % 4 != 0)
-}
-
-pub fn bad_size(width: usize, height: usize) -> bool
-    ensures { λ r. ⌜ r ≡ badSize width height ⌝ }
-{
-    bad_side(width) | bad_side(height)
-}
-
-// A block's own sixteen samples.
-pub fn gather(samples: &[f32], width: usize, column: usize, row: usize) -> [f32; 16]
-    requires { ⌜ (column < along width) × (4 * (row + 1) * width ≤ length (now samples)) ⌝ }
-    ensures { λ r. ⌜ r ≡ blockOf (now (samples .entry)) width column row ⌝ }
-{
-    let mut b = [0.0f32; 16];
-    for i in 0..16usize {
-        b[i] = samples[(4 * row + i / 4) * width + (4 * column + i % 4)];
-    }
-    b
-}
 
 // The eight bytes into the eight that are lent.
 fn put(out: &mut [u8], b: [u8; 8])
@@ -51,7 +25,7 @@ fn encode_row(samples: &[f32], width: usize, row: usize, o: Options, out: &mut [
 {
     for column in 0..width / 4 {
         let at = 8 * column;
-        let b = gather(samples, width, column, row);
+        let b = place::gather(samples, width, column, row);
         let e = index_list::bytes(encode::compress_bc4_block(&b, o));
         put(&mut out[at..at + 8], e);
     }

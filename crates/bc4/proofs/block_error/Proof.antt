@@ -1,6 +1,6 @@
 -- `block_error` meets its contract. Assumes nothing.
 use Rattle.bc4.specs.Calls.{scoredOn}
-use Rattle.bc4.proofs.Lowest.{passed-clear, same-of}
+use Rattle.refusal.proofs.Lowest.{passed-clear, same-of}
 use borrow.Author.Needs.{needs}
 use Rattle.bc4.proofs.block_error.Statement.{statement}
 use Rattle.bc4.proofs.block_error.Tie as tie

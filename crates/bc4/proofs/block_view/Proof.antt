@@ -2,9 +2,9 @@
 use mathlib.Core.Path.{_≡_, sym, _∙_}
 use Prim.Native.Nat.{_+_, _-_}
 use native.Mathlib.Omega.{arith}
-use Rattle.tile.specs.Place.{blockAt}
+use Rattle.place.specs.Place.{blockAt}
 use Rattle.bc4.specs.Calls.{viewOn}
-use Rattle.bc4.proofs.Views.{view-room}
+use Rattle.refusal.proofs.Views.{view-room}
 use borrow.Author.Needs.{needs}
 use Rattle.bc4.proofs.block_view.Statement.{statement}
 use Rattle.bc4.proofs.block_view.Tie as tie

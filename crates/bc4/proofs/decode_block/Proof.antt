@@ -1,7 +1,7 @@
 -- `decode_block` meets its contract. Assumes nothing.
 use mathlib.Core.Path.{refl, sym, _∙_}
 use Rattle.bc4.specs.Calls.{samplesAfter}
-use Rattle.bc4.proofs.Lowest.{lowest-clear, same-of}
+use Rattle.refusal.proofs.Lowest.{lowest-clear, same-of}
 use borrow.Author.Needs.{needs}
 use Rattle.bc4.proofs.decode_block.Statement.{statement}
 use Rattle.bc4.proofs.decode_block.Tie as tie

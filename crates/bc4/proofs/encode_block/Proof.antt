@@ -1,6 +1,6 @@
 -- `encode_block` meets its contract. Assumes nothing.
 use Rattle.bc4.specs.Calls.{encodedOn}
-use Rattle.bc4.proofs.Lowest.{passed-clear, same-of}
+use Rattle.refusal.proofs.Lowest.{passed-clear, same-of}
 use borrow.Author.Needs.{needs}
 use Rattle.bc4.proofs.encode_block.Statement.{statement}
 use Rattle.bc4.proofs.encode_block.Tie as tie

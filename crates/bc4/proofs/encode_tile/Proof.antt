@@ -4,10 +4,10 @@ use Prim.Native.Nat.{_*_, _≤_}
 use native.Mathlib.Omega.{arith}
 use lib.ListN.{length}
 use borrow.Author.Tests.{ltb-false}
-use Rattle.tile.specs.Place.{encodedLength}
-use Rattle.tile.proofs.Places.{size-good, rows-samples, rows-length, size-small}
+use Rattle.place.specs.Place.{encodedLength}
+use Rattle.place.proofs.Places.{size-good, rows-samples, rows-length, size-small}
 use Rattle.bc4.specs.Calls.{tiledOn, outAfter}
-use Rattle.bc4.proofs.Lowest.{lowest-clear, passed-clear, same-of}
+use Rattle.refusal.proofs.Lowest.{lowest-clear, passed-clear, same-of}
 use borrow.Author.Needs.{needs}
 use Rattle.bc4.proofs.encode_tile.Statement.{statement}
 use Rattle.bc4.proofs.encode_tile.Tie as tie

@@ -1,6 +1,6 @@
 -- `resend` meets its contract. Assumes nothing.
 use Rattle.bc4.specs.Calls.{resentOn}
-use Rattle.bc4.proofs.Lowest.{passed-clear, same-of}
+use Rattle.refusal.proofs.Lowest.{passed-clear, same-of}
 use borrow.Author.Needs.{needs}
 use Rattle.bc4.proofs.resend.Statement.{statement}
 use Rattle.bc4.proofs.resend.Tie as tie

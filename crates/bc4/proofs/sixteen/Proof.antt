@@ -1,7 +1,7 @@
 -- `sixteen` meets its contract: the one block of a tile of width 4. Assumes nothing.
 use mathlib.Core.Path.{_∙_}
 use native.Mathlib.Omega.{arith}
-use Rattle.tile.proofs.Samples.{blockOf-whole}
+use Rattle.place.proofs.Samples.{blockOf-whole}
 use borrow.Author.Needs.{needs}
 use Rattle.bc4.proofs.sixteen.Statement.{statement}
 use Rattle.bc4.proofs.sixteen.Tie as tie

@@ -1,7 +1,7 @@
 -- `exports::bc4_block_view` meets its contract. Assumes nothing.
 use mathlib.Core.Path.{refl, sym, _∙_}
 use native.Mathlib.Omega.{arith}
-use Rattle.bc4.proofs.Views.{view-room}
+use Rattle.refusal.proofs.Views.{view-room}
 use borrow.Author.Needs.{needs}
 use Rattle.exports.proofs.bc4_block_view.Statement.{statement}
 use Rattle.exports.proofs.bc4_block_view.Tie as tie

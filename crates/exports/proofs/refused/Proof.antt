@@ -4,9 +4,9 @@ use mathlib.Core.List.{[], _∷_}
 use Prim.Native.Nat.{ℕ}
 use types.Run.{OneOf, miss}
 use denote.Enum.Declared.{tagOf}
-use Rattle.bc4.specs.declared.refusal.Refusal.{Refusal}
-use Rattle.bc4.proofs.refusal.Refusal.{the-type}
-use Rattle.bc4.specs.declared.refusal.Refusal.the-variants.{Size, SampleCount, EncodedLength, OutputLength, DitheredResend, NoSuchBlock, SampleIsNan, WordMalformed}
+use Rattle.refusal.specs.declared.Refusal.{Refusal}
+use Rattle.refusal.proofs.Refusal.{the-type}
+use Rattle.refusal.specs.declared.Refusal.the-variants.{Size, SampleCount, EncodedLength, OutputLength, DitheredResend, NoSuchBlock, SampleIsNan, WordMalformed}
 use Rattle.exports.specs.Border.{nanOn}
 use borrow.Author.Needs.{needs}
 use Rattle.exports.proofs.refused.Statement.{statement}

@@ -1,5 +1,5 @@
 -- `lines::line` meets its contract, case by case. Assumes nothing.
-use Rattle.bc4.proofs.Lowest.{number-small}
+use Rattle.refusal.proofs.Lowest.{number-small}
 use Rattle.lines.specs.Answers.{lineOf}
 use borrow.Author.Needs.{needs}
 use Rattle.lines.proofs.line.Statement.{statement}

@@ -8,7 +8,7 @@ use borrow.Author.Needs.{needs}
 use borrow.Rule.Slice.PartMut.{same-len-mid}
 use Rattle.index_list.specs.Layout.{bytesOf}
 use Rattle.encode.specs.Encoder.{compressed}
-use Rattle.tile.specs.Place.{along}
+use Rattle.place.specs.Place.{along}
 use Rattle.tile.specs.Tile.{rowBytes}
 use Rattle.tile.proofs.Stretches.{row-step}
 use Rattle.tile.proofs.encode_row.Statement.{statement}

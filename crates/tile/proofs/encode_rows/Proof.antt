@@ -7,9 +7,9 @@ use native.Mathlib.Omega.{arith}
 use lib.ListN.{length, drop, length-take, length-drop}
 use borrow.Author.Needs.{needs}
 use borrow.Rule.Slice.PartMut.{same-len-mid}
-use Rattle.tile.specs.Place.{rowLength}
+use Rattle.place.specs.Place.{rowLength}
 use Rattle.tile.specs.Tile.{tileBytes}
-use Rattle.tile.proofs.Places.{fits}
+use Rattle.place.proofs.Places.{fits}
 use Rattle.tile.proofs.Stretches.{tile-step}
 use Rattle.tile.proofs.encode_rows.Statement.{statement}
 use Rattle.tile.proofs.encode_rows.Tie as tie

@@ -1,7 +1,7 @@
 -- `word::encode_block` meets its contract. Assumes nothing.
-use Rattle.bc4.specs.Refusals.{encodeChecks}
+use Rattle.refusal.specs.Refusals.{encodeChecks}
 use Rattle.bc4.specs.Calls.{encodedOn}
-use Rattle.bc4.proofs.Lowest.{malformed-last, formed-last}
+use Rattle.refusal.proofs.Lowest.{malformed-last, formed-last}
 use borrow.Author.Needs.{needs}
 use Rattle.bc4.proofs.word.encode_block.Statement.{statement}
 use Rattle.bc4.proofs.word.encode_block.Tie as tie

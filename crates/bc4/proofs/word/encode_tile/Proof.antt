@@ -1,9 +1,9 @@
 -- `word::encode_tile` meets its contract. Assumes nothing.
 use mathlib.Core.Path.{refl}
 use lib.ListN.{length}
-use Rattle.bc4.specs.Refusals.{tileChecks}
+use Rattle.refusal.specs.Refusals.{tileChecks}
 use Rattle.bc4.specs.Calls.{tiledOn, outAfter}
-use Rattle.bc4.proofs.Lowest.{malformed-last, formed-last}
+use Rattle.refusal.proofs.Lowest.{malformed-last, formed-last}
 use borrow.Author.Needs.{needs}
 use Rattle.bc4.proofs.word.encode_tile.Statement.{statement}
 use Rattle.bc4.proofs.word.encode_tile.Tie as tie

@@ -1,7 +1,7 @@
 -- `word::resend` meets its contract. Assumes nothing.
-use Rattle.bc4.specs.Refusals.{resendChecks}
+use Rattle.refusal.specs.Refusals.{resendChecks}
 use Rattle.bc4.specs.Calls.{resentOn}
-use Rattle.bc4.proofs.Lowest.{malformed-last, formed-last}
+use Rattle.refusal.proofs.Lowest.{malformed-last, formed-last}
 use borrow.Author.Needs.{needs}
 use Rattle.bc4.proofs.word.resend.Statement.{statement}
 use Rattle.bc4.proofs.word.resend.Tie as tie

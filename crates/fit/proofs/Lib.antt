@@ -1,0 +1,2 @@
+pub mod LaneFill
+pub mod FitLaws

@@ -1,0 +1,31 @@
+// Document 01, "Calls and numbers": the sizes that a tile may have, and a block's own samples in it.
+ghost use mathlib.Core.Path.{_≡_};
+ghost use Prim.Native.Nat.{_+_, _*_, _<_, _≤_};
+ghost use lib.ListN.{length};
+ghost use Rattle.place.specs.Place.{badSide, badSize, along, blockOf};
+
+const LONGEST_SIDE: usize = 1024;
+
+fn bad_side(n: usize) -> bool
+    ensures { λ r. ⌜ r ≡ badSide n ⌝ }
+{
+    (n == 0) | (LONGEST_SIDE < n) | (n % 4 != 0)
+}
+
+pub fn bad_size(width: usize, height: usize) -> bool
+    ensures { λ r. ⌜ r ≡ badSize width height ⌝ }
+{
+    bad_side(width) | bad_side(height)
+}
+
+// A block's own sixteen samples.
+pub fn gather(samples: &[f32], width: usize, column: usize, row: usize) -> [f32; 16]
+    requires { ⌜ (column < along width) × (4 * (row + 1) * width ≤ length (now samples)) ⌝ }
+    ensures { λ r. ⌜ r ≡ blockOf (now (samples .entry)) width column row ⌝ }
+{
+    let mut b = [0.0f32; 16];
+    for i in 0..16usize {
+        b[i] = samples[(4 * row + i / 4) * width + (4 * column + i % 4)];
+    }
+    b
+}

@@ -1,0 +1,3 @@
+pub mod Lowest
+pub mod Nans
+pub mod Views

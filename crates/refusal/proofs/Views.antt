@@ -1,0 +1,21 @@
+-- A view that is not refused stands within its tile. Assumes nothing.
+use mathlib.Core.Path.{_≡_}
+use mathlib.Core.List.{List}
+use Prim.Native.Nat.{ℕ, _+_, _≤_}
+use native.Mathlib.Omega.{arith}
+use lib.ListN.{length}
+use Rattle.place.specs.Place.{encodedLength, blockAt}
+use Rattle.place.proofs.Places.{size-small, block-there, block-within}
+use Rattle.refusal.specs.declared.Checked.the-variants.{Passed}
+use Rattle.refusal.specs.Refusals.{lowest, viewChecks}
+use Rattle.refusal.proofs.Lowest.{lowest-clear, same-of}
+
+pub view-room : (tile : List ℕ) (width height column row : ℕ) → lowest (viewChecks (length tile) width height column row) ≡ Passed
+    → (blockAt width column row + 8 ≤ length tile) × (length tile ≤ 524288)
+view-room tile width height column row passed =
+    let clear = lowest-clear (viewChecks (length tile) width height column row) passed in
+    let there = block-there width height column row (clear .1 .1 .0) in
+    let within = block-within width height (clear .0) column row (there .0) (there .1) in
+    let small = size-small width height (clear .0) in
+    let long : length tile ≡ encodedLength width height = same-of _ _ (clear .1 .0) in
+    (omega arith, omega arith)

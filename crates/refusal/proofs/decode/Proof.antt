@@ -1,0 +1,16 @@
+-- `refusal::decode` meets its contract. Assumes nothing.
+use borrow.Author.Tests.{eq-eqb, ne-eqb}
+use Rattle.refusal.specs.Refusals.{lowest}
+use Rattle.refusal.proofs.decode.Statement.{statement}
+use Rattle.refusal.proofs.decode.Tie as tie
+
+returns : tie.Need-returns
+unfolding lowest
+returns c = rw (ne-eqb _ _ (c .if1 .taken))
+
+returns-2 : tie.Need-returns-2
+unfolding lowest
+returns-2 c = rw (eq-eqb _ _ (c .if1 .left))
+
+pub decode-spec : {M : Type 1} → statement M
+decode-spec = tie.close (tie.spec returns returns-2)

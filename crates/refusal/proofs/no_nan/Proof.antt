@@ -1,0 +1,22 @@
+-- `refusal::no_nan` meets its contract. Assumes nothing.
+use borrow.Author.Needs.{needs}
+use Rattle.refusal.specs.Refusals.{lowest}
+use Rattle.refusal.proofs.no_nan.Statement.{statement}
+use Rattle.refusal.proofs.no_nan.Tie as tie
+
+any-nan-requires : tie.Need-any-nan-requires
+any-nan-requires c κs = search needs
+
+first-nan-requires : tie.Need-first-nan-requires
+first-nan-requires c κs = search needs
+
+returns : tie.Need-returns
+unfolding lowest
+returns c = rw (← c .before .before .any-nan .ensures, c .before .if1 .taken, ← c .first-nan .ensures)
+
+returns-2 : tie.Need-returns-2
+unfolding lowest
+returns-2 c = rw (← c .before .any-nan .ensures, c .if1 .left)
+
+pub no-nan-spec : {M : Type 1} → statement M
+no-nan-spec = tie.close (tie.spec any-nan-requires first-nan-requires returns returns-2)

@@ -1,0 +1,49 @@
+-- `refusal::tile` meets its contract. Assumes nothing.
+use mathlib.Core.Path.{sym, _∙_}
+use Rattle.place.proofs.Places.{size-small}
+use borrow.Author.Tests.{eq-eqb, ne-eqb, lt-ltb, le-ltb}
+use Rattle.refusal.specs.Refusals.{lowest}
+use borrow.Author.Needs.{needs}
+use Rattle.refusal.proofs.tile.Statement.{statement}
+use Rattle.refusal.proofs.tile.Tie as tie
+
+bad-size-requires : tie.Need-bad-size-requires
+bad-size-requires c κs = search needs
+
+returns : tie.Need-returns
+unfolding lowest
+returns c = rw (← c .before .bad-size .ensures, c .if1 .taken)
+
+mul-if2 : tie.Need-mul-if2
+mul-if2 c = let small = size-small _ _ (sym (c .before .bad-size .ensures) ∙ c .if1 .left) in search needs
+
+returns-2 : tie.Need-returns-2
+unfolding lowest
+returns-2 c = rw (← c .before .before .bad-size .ensures, c .before .if1 .left, ne-eqb _ _ (c .if2 .taken))
+
+mul-if3 : tie.Need-mul-if3
+mul-if3 c = search needs
+
+returns-3 : tie.Need-returns-3
+unfolding lowest
+returns-3 c = rw (← c .before .before .before .bad-size .ensures, c .before .before .if1 .left, eq-eqb _ _ (c .before .if2 .left), lt-ltb _ _ (c .if3 .taken))
+
+no-nan-requires : tie.Need-no-nan-requires
+no-nan-requires c κs = search needs
+
+returns-4 : tie.Need-returns-4
+unfolding lowest
+returns-4 c = rw (← c .before .before .before .before .bad-size .ensures, c .before .before .before .if1 .left, eq-eqb _ _ (c .before .before .if2 .left), le-ltb _ _ (c .before .if3 .left)) (c .no-nan .ensures)
+
+pub tile-spec : {M : Type 1} → statement M
+tile-spec =
+    tie.close
+    (tie.spec
+    bad-size-requires
+    returns
+    mul-if2
+    returns-2
+    mul-if3
+    returns-3
+    no-nan-requires
+    returns-4)

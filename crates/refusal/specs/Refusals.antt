@@ -1,0 +1,92 @@
+-- Document 01, "Calls and numbers": the refusals, their numbers, and what each call checks. Checks run in number order; the lowest that applies
+-- is the answer.
+use mathlib.Core.Bool.{Bool, not, cond}
+use mathlib.Core.List.{List, [], _∷_}
+use Prim.Native.Nat.{ℕ, suc, _*_}
+use lib.Dec.{ltb, eqb}
+use lib.ListN.{length}
+use lib.Ieee.{Float, isNan}
+use Rattle.refine.specs.declared.options.Options.{Options}
+use Rattle.place.specs.Place.{badSize, noBlock, encodedLength}
+use Rattle.refusal.specs.declared.Refusal.{Refusal}
+use Rattle.refusal.specs.declared.Refusal.the-variants.{Size, SampleCount, EncodedLength, OutputLength, DitheredResend, NoSuchBlock, SampleIsNan, WordMalformed}
+use Rattle.refusal.specs.declared.Checked.{Checked}
+use Rattle.refusal.specs.declared.Checked.the-variants.{Passed, Refused}
+
+-- the document's number of a refusal; a NaN's comes with the lowest index
+abbrev pub numberOf : Refusal → ℕ
+numberOf Size = 1
+numberOf SampleCount = 2
+numberOf EncodedLength = 3
+numberOf OutputLength = 4
+numberOf DitheredResend = 5
+numberOf NoSuchBlock = 6
+numberOf (SampleIsNan i) = 7
+numberOf WordMalformed = 8
+
+-- ---- a check: a refusal, and whether it applies
+pub record Check : Type 0 where
+  pub refusal : Refusal
+  pub applies : Bool
+
+abbrev pub when : Refusal → Bool → Check
+when refusal applies = record { refusal = refusal; applies = applies }
+
+unfoldable pub lowest : List Check → Checked
+lowest [] = Passed
+lowest (c ∷ cs) = cond (c .applies) (Refused (c .refusal)) (lowest cs)
+
+-- ---- each check once
+-- the index of the first NaN, or the length where there is none
+unfoldable pub firstNan : List Float → ℕ
+firstNan [] = 0
+firstNan (x ∷ s) = cond (isNan x) 0 (suc (firstNan s))
+
+abbrev pub sizeCheck : ℕ → ℕ → Check
+sizeCheck width height = when Size (badSize width height)
+
+abbrev pub countCheck : List Float → ℕ → Check
+countCheck samples n = when SampleCount (not (eqb (length samples) n))
+
+abbrev pub lengthCheck : ℕ → ℕ → Check
+lengthCheck long n = when EncodedLength (not (eqb long n))
+
+abbrev pub roomCheck : ℕ → ℕ → Check
+roomCheck room n = when OutputLength (ltb room n)
+
+abbrev pub ditherCheck : Options → Check
+ditherCheck o = when DitheredResend (o .dither)
+
+abbrev pub placeCheck : ℕ → ℕ → ℕ → ℕ → Check
+placeCheck width height column row = when NoSuchBlock (noBlock width height column row)
+
+abbrev pub nanCheck : List Float → Check
+nanCheck samples = when (SampleIsNan (firstNan samples)) (ltb (firstNan samples) (length samples))
+
+-- ---- the checks of each call
+abbrev pub encodeChecks : List Float → List Check
+encodeChecks samples = countCheck samples 16 ∷ nanCheck samples ∷ []
+
+abbrev pub decodeChecks : List ℕ → List Check
+decodeChecks encoded = lengthCheck (length encoded) 8 ∷ []
+
+abbrev pub errorChecks : List Float → List ℕ → List Check
+errorChecks samples encoded = countCheck samples 16 ∷ lengthCheck (length encoded) 8 ∷ nanCheck samples ∷ []
+
+abbrev pub resendChecks : List Float → List ℕ → Options → List Check
+resendChecks samples held o = countCheck samples 16 ∷ lengthCheck (length held) 8 ∷ ditherCheck o ∷ nanCheck samples ∷ []
+
+-- `room` is the length of the output
+abbrev pub tileChecks : List Float → ℕ → ℕ → ℕ → List Check
+tileChecks samples width height room =
+    sizeCheck width height ∷ countCheck samples (width * height) ∷ roomCheck room (encodedLength width height) ∷ nanCheck samples ∷ []
+
+-- `long` is the length of the tile
+abbrev pub viewChecks : ℕ → ℕ → ℕ → ℕ → ℕ → List Check
+viewChecks long width height column row =
+    sizeCheck width height ∷ lengthCheck long (encodedLength width height) ∷ placeCheck width height column row ∷ []
+
+-- of a call whose options word is malformed: 8 comes after what the call refuses for another reason
+abbrev pub orMalformed : Checked → Refusal
+orMalformed Passed = WordMalformed
+orMalformed (Refused q) = q

@@ -1,0 +1,170 @@
+// Document 01, "Calls and numbers": every refusal, its number, and the checks of each call, in number order.
+ghost use mathlib.Core.Path.{_≡_};
+ghost use mathlib.Core.List.{[], _∷_};
+ghost use lib.Dec.{ltb};
+ghost use lib.ListN.{length};
+ghost use Rattle.refusal.specs.Refusals.{numberOf, lowest, orMalformed, firstNan, nanCheck, encodeChecks, decodeChecks, errorChecks, resendChecks, tileChecks, viewChecks};
+use refine::options::Options;
+
+pub enum Refusal {
+    // A side of the tile is 0, over 1,024 or no multiple of 4.
+    Size,
+    // The sample count is not 16, or not width * height.
+    SampleCount,
+    // The encoded length is not 8, or not width * height / 2.
+    EncodedLength,
+    // The output is shorter than width * height / 2.
+    OutputLength,
+    // A resend with dither.
+    DitheredResend,
+    // The column or the row of blocks is none of the tile's.
+    NoSuchBlock,
+    // A sample is NaN: the lowest index.
+    SampleIsNan(usize),
+    // The options word of a record is malformed.
+    WordMalformed,
+}
+
+pub enum Checked {
+    Passed,
+    Refused(Refusal),
+}
+
+pub fn number(refusal: Refusal) -> u8
+    ensures { λ r. ⌜ r ≡ numberOf refusal ⌝ }
+{
+    match refusal {
+        Refusal::Size => 1,
+        Refusal::SampleCount => 2,
+        Refusal::EncodedLength => 3,
+        Refusal::OutputLength => 4,
+        Refusal::DitheredResend => 5,
+        Refusal::NoSuchBlock => 6,
+        Refusal::SampleIsNan(_) => 7,
+        Refusal::WordMalformed => 8,
+    }
+}
+
+// Looks at all of them: without a way out of its loop it takes four at a time.
+fn any_nan(samples: &[f32]) -> bool
+    ensures { λ r. ⌜ r ≡ ltb (firstNan (now (samples .entry))) (length (now (samples .entry))) ⌝ }
+{
+    let mut found = false;
+    let mut i = 0;
+    while i < samples.len() {
+        let x = samples[i];
+        found = found | (x != x);
+        i += 1;
+    }
+    found
+}
+
+// The index of the first NaN, or the length where there is none.
+fn first_nan(samples: &[f32]) -> usize
+    ensures { λ r. ⌜ r ≡ firstNan (now (samples .entry)) ⌝ }
+{
+    let mut i = 0;
+    while i < samples.len() {
+        let x = samples[i];
+        if x != x {
+            return i;
+        }
+        i += 1;
+    }
+    i
+}
+
+fn no_nan(samples: &[f32]) -> Checked
+    ensures { λ r. ⌜ r ≡ lowest (nanCheck (now (samples .entry)) ∷ []) ⌝ }
+{
+    if any_nan(samples) {
+        return Checked::Refused(Refusal::SampleIsNan(first_nan(samples)));
+    }
+    Checked::Passed
+}
+
+pub fn encode(samples: &[f32]) -> Checked
+    ensures { λ r. ⌜ r ≡ lowest (encodeChecks (now (samples .entry))) ⌝ }
+{
+    if samples.len() != 16 {
+        return Checked::Refused(Refusal::SampleCount);
+    }
+    no_nan(samples)
+}
+
+pub fn decode(encoded: &[u8]) -> Checked
+    ensures { λ r. ⌜ r ≡ lowest (decodeChecks (now (encoded .entry))) ⌝ }
+{
+    if encoded.len() != 8 {
+        return Checked::Refused(Refusal::EncodedLength);
+    }
+    Checked::Passed
+}
+
+pub fn error(samples: &[f32], encoded: &[u8]) -> Checked
+    ensures { λ r. ⌜ r ≡ lowest (errorChecks (now (samples .entry)) (now (encoded .entry))) ⌝ }
+{
+    if samples.len() != 16 {
+        return Checked::Refused(Refusal::SampleCount);
+    }
+    if encoded.len() != 8 {
+        return Checked::Refused(Refusal::EncodedLength);
+    }
+    no_nan(samples)
+}
+
+pub fn resend(samples: &[f32], held: &[u8], o: Options) -> Checked
+    ensures { λ r. ⌜ r ≡ lowest (resendChecks (now (samples .entry)) (now (held .entry)) o) ⌝ }
+{
+    if samples.len() != 16 {
+        return Checked::Refused(Refusal::SampleCount);
+    }
+    if held.len() != 8 {
+        return Checked::Refused(Refusal::EncodedLength);
+    }
+    if o.dither {
+        return Checked::Refused(Refusal::DitheredResend);
+    }
+    no_nan(samples)
+}
+
+// `room` is the length of the output.
+pub fn tile(samples: &[f32], width: usize, height: usize, room: usize) -> Checked
+    ensures { λ r. ⌜ r ≡ lowest (tileChecks (now (samples .entry)) width height room) ⌝ }
+{
+    if place::bad_size(width, height) {
+        return Checked::Refused(Refusal::Size);
+    }
+    if samples.len() != width * height {
+        return Checked::Refused(Refusal::SampleCount);
+    }
+    if room < width * height / 2 {
+        return Checked::Refused(Refusal::OutputLength);
+    }
+    no_nan(samples)
+}
+
+pub fn view(tile: &[u8], width: usize, height: usize, column: usize, row: usize) -> Checked
+    ensures { λ r. ⌜ r ≡ lowest (viewChecks (length (now (tile .entry))) width height column row) ⌝ }
+{
+    if place::bad_size(width, height) {
+        return Checked::Refused(Refusal::Size);
+    }
+    if tile.len() != width * height / 2 {
+        return Checked::Refused(Refusal::EncodedLength);
+    }
+    if (column >= width / 4) | (row >= height / 4) {
+        return Checked::Refused(Refusal::NoSuchBlock);
+    }
+    Checked::Passed
+}
+
+// Of a call whose options word is malformed: what the call refuses for another reason comes first.
+pub fn or_malformed(checked: Checked) -> Refusal
+    ensures { λ r. ⌜ r ≡ orMalformed checked ⌝ }
+{
+    match checked {
+        Checked::Refused(q) => q,
+        Checked::Passed => Refusal::WordMalformed,
+    }
+}

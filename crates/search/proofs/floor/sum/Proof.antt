@@ -1,0 +1,92 @@
+use mathlib.Core.Path.{refl, ap, _∙_}
+use mathlib.Core.List.{List}
+use Prim.Native.Nat.{ℕ, _≤_, _-_}
+use native.Mathlib.Omega.{arith}
+use lib.Ieee.{Float, nan}
+use borrow.Author.Needs.{needs}
+use Rattle.block.specs.Samples.{pixelAt}
+use Rattle.block.specs.Orders.{sumInOrder}
+use Rattle.block.proofs.Fill.{Filled, fill-start, fill-step, fill-end}
+use Rattle.search.specs.Floor.{beyond, atLeast, floorOf}
+use Rattle.search.proofs.floor.sum.Statement.{statement}
+use Rattle.search.proofs.floor.sum.Tie as tie
+
+abbrev term : List Float → Float → Float → ℕ → Float
+term b low high i = atLeast (beyond low high (pixelAt b i)) (pixelAt b i)
+
+abbrev Inv-loop : tie.InvT-loop
+Inv-loop b low high e₀ i₀ e i = (i ≤ 16) × Filled nan (term b low high) 16 e i
+
+abbrev μ-loop : tie.MeasureT-loop
+μ-loop b low high e₀ i₀ e i = 16 - i
+
+loop-holds : tie.Need-loop-holds Inv-loop μ-loop
+loop-holds c = (search needs, fill-start nan _ 16 _ refl)
+
+mul-beyond : tie.Need-mul-beyond Inv-loop μ-loop
+mul-beyond c = search needs
+
+element-copy-out-beyond : tie.Need-element-copy-out-beyond Inv-loop μ-loop
+element-copy-out-beyond c = search needs
+
+beyond-requires : tie.Need-beyond-requires Inv-loop μ-loop
+beyond-requires c κs = search needs
+
+mul-at-least : tie.Need-mul-at-least Inv-loop μ-loop
+mul-at-least c = search needs
+
+element-copy-out-at-least : tie.Need-element-copy-out-at-least Inv-loop μ-loop
+element-copy-out-at-least c = search needs
+
+at-least-requires : tie.Need-at-least-requires Inv-loop μ-loop
+at-least-requires c κs = search needs
+
+mul-e : tie.Need-mul-e Inv-loop μ-loop
+mul-e c = search needs
+
+array-write-e : tie.Need-array-write-e Inv-loop μ-loop
+array-write-e c = search needs
+
+add-i : tie.Need-add-i Inv-loop μ-loop
+add-i c = search needs
+
+loop-less : tie.Need-loop-less Inv-loop μ-loop
+loop-less c = search needs
+
+loop-again : tie.Need-loop-again Inv-loop μ-loop
+loop-again c =
+    let k = c .before .before in
+    let h = k .before .before .before in
+    let a = h .before .args in
+    (search needs, fill-step nan (term (a .b .now) (a .low) (a .high)) 16 (h .loop .e) (h .loop .i) (c .at-least .result) (h .loop .inv .1) (k .before .before .loop-test .taken) (c .at-least .ensures ∙ ap (λ (d : Float). atLeast d (pixelAt (a .b .now) (h .loop .i))) (k .beyond .ensures)))
+
+sum-in-order-requires : tie.Need-sum-in-order-requires Inv-loop μ-loop
+sum-in-order-requires c κs = search needs
+
+returns : tie.Need-returns Inv-loop μ-loop
+unfolding floorOf
+returns c =
+    let h = c .before .before .before in
+    let a = h .before .args in
+    c .sum-in-order .ensures ∙ ap sumInOrder (fill-end nan (term (a .b .now) (a .low) (a .high)) 16 (h .loop .e) (h .loop .i) (h .loop .inv .1) (omega arith))
+
+pub sum-spec : {M : Type 1} → statement M
+sum-spec =
+    tie.close
+    (tie.spec
+    Inv-loop
+    μ-loop
+    loop-holds
+    mul-beyond
+    element-copy-out-beyond
+    beyond-requires
+    mul-at-least
+    element-copy-out-at-least
+    at-least-requires
+    mul-e
+    array-write-e
+    add-i
+    loop-less
+    loop-again
+    sum-in-order-requires
+    returns)

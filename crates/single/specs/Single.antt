@@ -1,0 +1,38 @@
+-- bc4.rs, `single_color`: a block whose samples are all nearly v.
+use mathlib.Core.Bool.{Bool, true, cond}
+use Prim.Native.Nat.{ℕ}
+use lib.Ieee.{Float, lt}
+use Rattle.floats.specs.Arithmetic.{_⊖_, bits}
+use Rattle.floats.specs.Helpers.{absOf}
+use Rattle.index_list.specs.Indexes.{filledTo}
+use Rattle.index_list.specs.Layout.{packed}
+use Rattle.end_points.specs.declared.EndPoints.{EndPoints}
+use Rattle.end_points.specs.EndPoints.{closest, inter6, inter4}
+use Rattle.block.specs.Samples.{perPixel}
+use Rattle.palette.specs.Palettes.{inter6Palette, colors}
+use Rattle.palette.specs.Closest.{closest6, closest4}
+use Rattle.coding.specs.Coding.{coded6}
+
+-- BC4_EPSILON, 1 / 65536
+abbrev pub epsilon : Float
+epsilon = bits 0x3780_0000
+
+-- the same index everywhere
+abbrev pub uniform : EndPoints → ℕ → ℕ
+uniform e k = packed (e .c0) (e .c1) (filledTo (λ i. k) 16)
+
+-- the nearer of the two palettes around v, the six-value one if neither is
+unfoldable pub nearest : Bool → Float → ℕ
+nearest snorm v =
+    let e6 = inter6 snorm v v in
+    let e4 = inter4 snorm v v in
+    let k6 = closest6 (inter6Palette (e6 .«c0_f») (e6 .«c1_f»)) v in
+    let k4 = closest4 (colors (e4 .«c0_f») (e4 .«c1_f»)) v in
+    cond (lt (k4 .error) (k6 .error)) (uniform e4 (k4 .index)) (uniform e6 (k6 .index))
+
+-- One level if that is near enough; else a dithered block, or the nearest value of a palette.
+unfoldable pub singleColor : Bool → Bool → Float → ℕ
+singleColor snorm dither v =
+    let e = closest snorm v in
+    cond (lt (absOf (e .«c0_f» ⊖ v)) epsilon) (uniform e 0)
+    (cond dither (coded6 (perPixel (λ i. v)) snorm true (record { 0 = v; 1 = v }) .bytes) (nearest snorm v))
