@@ -157,7 +157,7 @@ pub fn block_view(tile: &[u8], width: usize, height: usize, column: usize, row: 
     match checked {
         Checked::Refused(_) => &tile[0..0],
         Checked::Passed => {
-            let at = 8 * (row * (width / 4) + column);
+            let at = place::block_at(width, column, row);
             &tile[at..at + 8]
         }
     }

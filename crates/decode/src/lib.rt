@@ -29,15 +29,15 @@ fn six_values(c0: f32, c1: f32) -> [f32; 8]
     ]
 }
 
+// Each mode works its two ends out by itself: ahead of the test the compiler makes one vector of them, which both have to take apart again.
 fn values_in(c0: u8, c1: u8, snorm: bool) -> [f32; 8]
     ensures { λ r. ⌜ r ≡ tableOf snorm c0 c1 ⌝ }
 {
-    let x = values::value(c0, snorm);
-    let y = values::value(c1, snorm);
     if is_six(c0, c1, snorm) {
-        return six_values(x, y);
+        return six_values(values::value(c0, snorm), values::value(c1, snorm));
     }
-    let p = Inter4Palette::new(x, y);
+    let y = values::value(c1, snorm);
+    let p = Inter4Palette::new(values::value(c0, snorm), y);
     p.colors
 }
 

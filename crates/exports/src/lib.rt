@@ -184,7 +184,7 @@ pub extern "C" fn bc4_block_view(
     match checked {
         Checked::Refused(q) => wide(refusal::number(q)),
         Checked::Passed => {
-            *offset = 8 * (row * (width / 4) + column);
+            *offset = place::block_at(width, column, row);
             0
         }
     }

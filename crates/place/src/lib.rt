@@ -1,8 +1,8 @@
-// Document 01, "Calls and numbers": the sizes that a tile may have, and a block's own samples in it.
+// Document 01, "Calls and numbers": the sizes that a tile may have, and where a block's bytes and samples are in it.
 ghost use mathlib.Core.Path.{_≡_};
 ghost use Prim.Native.Nat.{_+_, _*_, _<_, _≤_};
 ghost use lib.ListN.{length};
-ghost use Rattle.place.specs.Place.{badSide, badSize, along, blockOf};
+ghost use Rattle.place.specs.Place.{longestSide, badSide, badSize, along, blockAt, blockOf};
 
 const LONGEST_SIDE: usize = 1024;
 
@@ -16,6 +16,14 @@ pub fn bad_size(width: usize, height: usize) -> bool
     ensures { λ r. ⌜ r ≡ badSize width height ⌝ }
 {
     bad_side(width) | bad_side(height)
+}
+
+// Where a block's eight bytes start.
+pub fn block_at(width: usize, column: usize, row: usize) -> usize
+    requires { ⌜ blockAt width column row ≤ longestSide * longestSide ⌝ }
+    ensures { λ r. ⌜ r ≡ blockAt width column row ⌝ }
+{
+    8 * (row * (width / 4) + column)
 }
 
 // A block's own sixteen samples.

@@ -27,28 +27,18 @@ part-result-end c = search needs
 enum-told-2 : tie.Need-enum-told-2
 enum-told-2 c = search needs
 
-mul-at : tie.Need-mul-at
-mul-at c =
-    let a = c .before .before .before .before .args in
-    let room = view-room (a .tile .now) (a .width) (a .height) (a .column) (a .row) (sym (c .before .before .view-refusal .ensures) ∙ c .enum-told2 .given .1) in
-    search needs
-
-add-at : tie.Need-add-at
-add-at c =
-    let a = c .before .before .before .before .args in
-    let room = view-room (a .tile .now) (a .width) (a .height) (a .column) (a .row) (sym (c .before .before .view-refusal .ensures) ∙ c .enum-told2 .given .1) in
-    search needs
-
-mul-at-2 : tie.Need-mul-at-2
-mul-at-2 c =
-    let a = c .before .before .before .before .args in
-    let room = view-room (a .tile .now) (a .width) (a .height) (a .column) (a .row) (sym (c .before .before .view-refusal .ensures) ∙ c .enum-told2 .given .1) in
+block-at-requires : tie.Need-block-at-requires
+block-at-requires c κs =
+    let t = c in
+    let a = t .before .before .before .before .args in
+    let room = view-room (a .tile .now) (a .width) (a .height) (a .column) (a .row) (sym (t .before .before .view-refusal .ensures) ∙ t .enum-told2 .given .1) in
     search needs
 
 add-result : tie.Need-add-result
 add-result c =
-    let a = c .before .before .before .before .args in
-    let room = view-room (a .tile .now) (a .width) (a .height) (a .column) (a .row) (sym (c .before .before .view-refusal .ensures) ∙ c .enum-told2 .given .1) in
+    let t = c .before in
+    let a = t .before .before .before .before .args in
+    let room = view-room (a .tile .now) (a .width) (a .height) (a .column) (a .row) (sym (t .before .before .view-refusal .ensures) ∙ t .enum-told2 .given .1) in
     search needs
 
 sub-result-2 : tie.Need-sub-result-2
@@ -59,8 +49,9 @@ part-result-start-2 c = search needs
 
 part-result-end-2 : tie.Need-part-result-end-2
 part-result-end-2 c =
-    let a = c .before .before .before .before .args in
-    let room = view-room (a .tile .now) (a .width) (a .height) (a .column) (a .row) (sym (c .before .before .view-refusal .ensures) ∙ c .enum-told2 .given .1) in
+    let t = c .before in
+    let a = t .before .before .before .before .args in
+    let room = view-room (a .tile .now) (a .width) (a .height) (a .column) (a .row) (sym (t .before .before .view-refusal .ensures) ∙ t .enum-told2 .given .1) in
     search needs
 
 returns : tie.Need-returns
@@ -70,9 +61,11 @@ returns c = rw (← c .before .before .before .view-refusal .ensures, c .before 
 returns-2 : tie.Need-returns-2
 unfolding viewOn
 returns-2 c =
-    let at = blockAt (c .before .before .before .before .before .args .width) (c .before .before .before .before .before .args .column) (c .before .before .before .before .before .args .row) in
+    let t = c .before .before in
+    let a = t .before .before .before .before .args in
+    let at = blockAt (a .width) (a .column) (a .row) in
     let eight : at + 8 - at ≡ 8 = omega arith in
-    rw (← c .before .before .before .view-refusal .ensures, c .before .enum-told2 .given .1, eight)
+    rw (← t .before .before .view-refusal .ensures, t .enum-told2 .given .1, c .before .block-at .ensures, eight)
 
 pub block-view-spec : {M : Type 1} → statement M
 block-view-spec =
@@ -84,9 +77,7 @@ block-view-spec =
     part-result-start
     part-result-end
     enum-told-2
-    mul-at
-    add-at
-    mul-at-2
+    block-at-requires
     add-result
     sub-result-2
     part-result-start-2

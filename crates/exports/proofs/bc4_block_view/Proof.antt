@@ -1,6 +1,5 @@
 -- `exports::bc4_block_view` meets its contract. Assumes nothing.
 use mathlib.Core.Path.{refl, sym, _∙_}
-use native.Mathlib.Omega.{arith}
 use Rattle.refusal.proofs.Views.{view-room}
 use borrow.Author.Needs.{needs}
 use Rattle.exports.proofs.bc4_block_view.Statement.{statement}
@@ -21,20 +20,8 @@ wide-requires c κs = search needs
 enum-told : tie.Need-enum-told
 enum-told c = search needs
 
-mul-offset : tie.Need-mul-offset
-mul-offset c =
-    let a = c .before .before .before .before .args in
-    let room = view-room (a .tile .now) (a .width) (a .height) (a .column) (a .row) (sym (c .before .before .view-refusal .ensures) ∙ c .enum-told .given .1) in
-    search needs
-
-add-offset : tie.Need-add-offset
-add-offset c =
-    let a = c .before .before .before .before .args in
-    let room = view-room (a .tile .now) (a .width) (a .height) (a .column) (a .row) (sym (c .before .before .view-refusal .ensures) ∙ c .enum-told .given .1) in
-    search needs
-
-mul-offset-2 : tie.Need-mul-offset-2
-mul-offset-2 c =
+block-at-requires : tie.Need-block-at-requires
+block-at-requires c κs =
     let a = c .before .before .before .before .args in
     let room = view-room (a .tile .now) (a .width) (a .height) (a .column) (a .row) (sym (c .before .before .view-refusal .ensures) ∙ c .enum-told .given .1) in
     search needs
@@ -43,7 +30,9 @@ returns : tie.Need-returns
 returns c = rw (← c .before .before .before .before .before .view-refusal .ensures, c .before .before .before .checked .given .1) (c .wide .ensures ∙ c .before .number .ensures, refl)
 
 returns-2 : tie.Need-returns-2
-returns-2 c = rw (← c .before .before .view-refusal .ensures, c .enum-told .given .1) (refl, refl)
+returns-2 c =
+    let t = c .before in
+    rw (← t .before .before .view-refusal .ensures, t .enum-told .given .1) (refl, c .block-at .ensures)
 
 pub bc4-block-view-spec : {M : Type 1} → statement M
 bc4-block-view-spec =
@@ -54,8 +43,6 @@ bc4-block-view-spec =
     number-requires
     wide-requires
     enum-told
-    mul-offset
-    add-offset
-    mul-offset-2
+    block-at-requires
     returns
     returns-2)
