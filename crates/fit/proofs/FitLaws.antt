@@ -20,53 +20,31 @@ use Rattle.bcn_util.specs.LeastSquares.{dotInPairs, complement, matrixOf, line,
 use Rattle.fit.specs.declared.Lanes.{Lanes}
 use Rattle.fit.specs.Fit.{fitted}
 use Rattle.fit.specs.Lanes.{weightAt, aboveAt, laneOf, aboveTo, weighed, across, matrix, lineLane, lineLanes, fitLanes, ends}
+use Rattle.fit.proofs.LaneFill.{Down, all-lanes}
 
 -- ---- every blend is above -1
-both : (s t : Bool) → (s && t) ≡ true → (s ≡ true) × (t ≡ true)
-both true t e = (refl, e)
-both false t e = absurd (false≢true e)
+both-true : (s t : Bool) → (s && t) ≡ true → (s ≡ true) × (t ≡ true)
+both-true true t e = (refl, e)
+both-true false t e = absurd (false≢true e)
 
 module _ (p : Inter6Palette) (b : List Float) where
-  lane-above : (j : ℕ) → laneOf p b j .above ≡ true
-      → (aboveAt p b j ≡ true) × (aboveAt p b (j + 4) ≡ true) × (aboveAt p b (j + 8) ≡ true) × (aboveAt p b (j + 12) ≡ true)
+  lane-above : (j : ℕ) → laneOf p b j .above ≡ true → Down (λ i. aboveAt p b i ≡ true) j
   unfolding laneOf
   lane-above j h =
-      let t3 = both _ (aboveAt p b (j + 12)) h in
-      let t2 = both _ (aboveAt p b (j + 8)) (t3 .0) in
-      let t1 = both (aboveAt p b j) (aboveAt p b (j + 4)) (t2 .0) in
+      let t3 = both-true _ (aboveAt p b (j + 12)) h in
+      let t2 = both-true _ (aboveAt p b (j + 8)) (t3 .0) in
+      let t1 = both-true (aboveAt p b j) (aboveAt p b (j + 4)) (t2 .0) in
       (t1 .0, t1 .1, t2 .1, t3 .1)
 
   lanes-above : (n : ℕ) → aboveTo p b n ≡ true → (j : ℕ) → j < n → laneOf p b j .above ≡ true
   unfolding aboveTo
   lanes-above zero h j l = absurd (omega arith)
   lanes-above (suc n) h j l =
-      let t = both (aboveTo p b n) (laneOf p b n .above) h in
+      let t = both-true (aboveTo p b n) (laneOf p b n .above) h in
       below-more (λ (k : ℕ). laneOf p b k .above ≡ true) n (lanes-above n (t .0)) (t .1) j (omega arith)
 
   each-above : aboveTo p b 4 ≡ true → (i : ℕ) → i < 16 → aboveAt p b i ≡ true
-  each-above h = each
-    where
-      lane : (j : ℕ) → j < 4 → (aboveAt p b j ≡ true) × (aboveAt p b (j + 4) ≡ true) × (aboveAt p b (j + 8) ≡ true) × (aboveAt p b (j + 12) ≡ true)
-      lane j l = lane-above j (lanes-above 4 h j l)
-
-      each : (i : ℕ) → i < 16 → aboveAt p b i ≡ true
-      each zero l = lane 0 (omega arith) .0
-      each (suc zero) l = lane 1 (omega arith) .0
-      each (suc (suc zero)) l = lane 2 (omega arith) .0
-      each (suc (suc (suc zero))) l = lane 3 (omega arith) .0
-      each (suc (suc (suc (suc zero)))) l = lane 0 (omega arith) .1
-      each (suc (suc (suc (suc (suc zero))))) l = lane 1 (omega arith) .1
-      each (suc (suc (suc (suc (suc (suc zero)))))) l = lane 2 (omega arith) .1
-      each (suc (suc (suc (suc (suc (suc (suc zero))))))) l = lane 3 (omega arith) .1
-      each (suc (suc (suc (suc (suc (suc (suc (suc zero)))))))) l = lane 0 (omega arith) .2
-      each (suc (suc (suc (suc (suc (suc (suc (suc (suc zero))))))))) l = lane 1 (omega arith) .2
-      each (suc (suc (suc (suc (suc (suc (suc (suc (suc (suc zero)))))))))) l = lane 2 (omega arith) .2
-      each (suc (suc (suc (suc (suc (suc (suc (suc (suc (suc (suc zero))))))))))) l = lane 3 (omega arith) .2
-      each (suc (suc (suc (suc (suc (suc (suc (suc (suc (suc (suc (suc zero)))))))))))) l = lane 0 (omega arith) .3
-      each (suc (suc (suc (suc (suc (suc (suc (suc (suc (suc (suc (suc (suc zero))))))))))))) l = lane 1 (omega arith) .3
-      each (suc (suc (suc (suc (suc (suc (suc (suc (suc (suc (suc (suc (suc (suc zero)))))))))))))) l = lane 2 (omega arith) .3
-      each (suc (suc (suc (suc (suc (suc (suc (suc (suc (suc (suc (suc (suc (suc (suc zero))))))))))))))) l = lane 3 (omega arith) .3
-      each (suc (suc (suc (suc (suc (suc (suc (suc (suc (suc (suc (suc (suc (suc (suc (suc k)))))))))))))))) l = absurd (omega arith)
+  each-above h = all-lanes (λ i. aboveAt p b i ≡ true) (λ j l. lane-above j (lanes-above 4 h j l))
 
   weights-above : aboveTo p b 4 ≡ true → perPixel (weightAt p b) ≡ weights p b
   unfolding weights

@@ -11,7 +11,7 @@ use Rattle.block.specs.Orders.{downLane}
 use Rattle.palette.specs.declared.inter6.Inter6Palette.{Inter6Palette}
 use Rattle.palette.specs.Palettes.{inter6Palette}
 use Rattle.palette.specs.Closest.{blend}
-use Rattle.palette.specs.Rows.{cappedWeight}
+use Rattle.palette.specs.Rows.{cutWeight}
 use Rattle.bcn_util.specs.declared.least_squares.WeightMatrix.{WeightMatrix}
 use Rattle.bcn_util.specs.LeastSquares.{fromD, orMean}
 use Rattle.fit.specs.declared.Lane.{Lane}
@@ -20,7 +20,7 @@ use Rattle.fit.specs.declared.Lanes.{Lanes}
 
 -- ---- of pixel i
 abbrev pub weightAt : Inter6Palette → List Float → ℕ → Float
-weightAt p b i = cappedWeight p (pixelAt b i)
+weightAt p b i = cutWeight (blend p (pixelAt b i))
 
 abbrev pub restAt : Inter6Palette → List Float → ℕ → Float
 restAt p b i = f1 ⊖ weightAt p b i

@@ -6,9 +6,8 @@ ghost use Rattle.fit.specs.Fit.{fitted as fittedOf};
 ghost use Rattle.fit.specs.Lanes.{laneOf, weighed, across as acrossOf, lineLane, lineLanes, matrix as matrixOf, fitLanes, ends as endsOf};
 use bcn_util::least_squares::WeightMatrix;
 use floats::Pair;
+use palette::inter6;
 use palette::inter6::Inter6Palette;
-
-const SEVENTH: f32 = 1.0 / 7.0;
 
 // Four pixels down a lane: their weights w, the sums of w·w, w·v and v·v with v = 1 - w, and whether the blends are all above -1.
 pub struct Lane {
@@ -42,14 +41,14 @@ fn weigh_lane(p: Inter6Palette, b: &[f32; 16], j: usize) -> Lane
     requires { ⌜ j < 4 ⌝ }
     ensures { λ r. ⌜ r ≡ laneOf p (now (b .entry)) j ⌝ }
 {
-    let x0 = b[j] * p.factor1 + p.add1;
-    let x1 = b[j + 4] * p.factor1 + p.add1;
-    let x2 = b[j + 8] * p.factor1 + p.add1;
-    let x3 = b[j + 12] * p.factor1 + p.add1;
-    let w0 = 1.0 - floats::up_to_7(x0) * SEVENTH;
-    let w1 = 1.0 - floats::up_to_7(x1) * SEVENTH;
-    let w2 = 1.0 - floats::up_to_7(x2) * SEVENTH;
-    let w3 = 1.0 - floats::up_to_7(x3) * SEVENTH;
+    let x0 = p.blend(b[j]);
+    let x1 = p.blend(b[j + 4]);
+    let x2 = p.blend(b[j + 8]);
+    let x3 = p.blend(b[j + 12]);
+    let w0 = inter6::cut_weight(x0);
+    let w1 = inter6::cut_weight(x1);
+    let w2 = inter6::cut_weight(x2);
+    let w3 = inter6::cut_weight(x3);
     let v0 = 1.0 - w0;
     let v1 = 1.0 - w1;
     let v2 = 1.0 - w2;

@@ -24,7 +24,7 @@ use Rattle.palette.specs.declared.inter4.Nearest.{Nearest}
 use Rattle.palette.specs.declared.inter6.Inter6Palette.{Inter6Palette}
 use Rattle.palette.specs.Palettes.{entry, seventh, indexMap, blended}
 use Rattle.palette.specs.Closest.{blend, blend7, weight, closest6, defaultOf, nearerOf, nearestTo, closest4}
-use Rattle.palette.specs.Rows.{index6, off6, rowCode, rowSum, cappedWeight}
+use Rattle.palette.specs.Rows.{index6, off6, rowCode, rowSum, cutWeight}
 
 -- ---- four values
 -- a choice between two records, field by field as the code makes it
@@ -119,7 +119,7 @@ unfolding closest6
 closest6-squared p x = square-abs (x ⊖ blended p (blend7 p x))
 
 -- ---- the weight, where the blend is above -1
-pub weight-above : (p : Inter6Palette) (x : Float) → lt (neg f1) (blend p x) ≡ true → cappedWeight p x ≡ weight p x
+pub weight-above : (p : Inter6Palette) (x : Float) → lt (neg f1) (blend p x) ≡ true → cutWeight (blend p x) ≡ weight p x
 unfolding weight
 weight-above p x h =
     ⊎-elim

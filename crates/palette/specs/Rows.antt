@@ -5,6 +5,7 @@ use Prim.Native.Nat.{ℕ, _+_, _*_}
 use lib.ListN.{getD}
 use lib.Ieee.{Float}
 use Rattle.floats.specs.Arithmetic.{_⊕_, _⊖_, _⊗_, squared, whole, f1}
+use Rattle.floats.specs.Helpers.{byteUpTo7}
 use Rattle.block.specs.Samples.{pixelAt}
 use Rattle.palette.specs.declared.Kind.{Kind}
 use Rattle.palette.specs.declared.inter6.Inter6Palette.{Inter6Palette}
@@ -31,8 +32,8 @@ rowSum p b i =
     squared (at (4 * i)) ⊕ squared (at (4 * i + 1)) ⊕ squared (at (4 * i + 2)) ⊕ squared (at (4 * i + 3))
 
 -- ---- the weight where the blend is above -1, by the cut of `closest` (`weight-above`)
-abbrev pub cappedWeight : Inter6Palette → Float → Float
-cappedWeight p x = f1 ⊖ whole (blend7 p x) ⊗ seventh
+abbrev pub cutWeight : Float → Float
+cutWeight blend = f1 ⊖ whole (byteUpTo7 blend) ⊗ seventh
 
 -- ---- the first row's part of a palette error: no palette error is below this (`row-floor`)
 unfoldable pub firstRowSum : List Float → List Float → Float

@@ -3,8 +3,8 @@ ghost use mathlib.Core.Path.{_≡_};
 ghost use Prim.Native.Nat.{_≤_, _<_};
 ghost use lib.ListN.{getD};
 ghost use Rattle.palette.specs.Palettes.{inter6Palette, indexMap, blended as blendedOf, values6};
-ghost use Rattle.palette.specs.Closest.{blend7 as blend7Of, closest6, weight, weights, blockClosest};
-ghost use Rattle.palette.specs.Rows.{index6, off6, rowCode, rowSum};
+ghost use Rattle.palette.specs.Closest.{blend as blendOf, blend7 as blend7Of, closest6, weight, weights, blockClosest};
+ghost use Rattle.palette.specs.Rows.{index6, off6, rowCode, rowSum, cutWeight};
 use crate::Closest;
 use crate::Indexed;
 use end_points::EndPoints;
@@ -38,6 +38,13 @@ pub fn values(c0: f32, c1: f32) -> [f32; 8]
         c0 + cd * F6,
         c0 + cd * 1.0,
     ]
+}
+
+// The weight of a blend above -1, by the cut of `closest`.
+pub fn cut_weight(blend: f32) -> f32
+    ensures { λ r. ⌜ r ≡ cutWeight blend ⌝ }
+{
+    1.0 - floats::up_to_7(blend) * F1
 }
 
 // INDEX_MAP by arithmetic, which a loop does for four pixels at once.
@@ -93,10 +100,17 @@ impl Inter6Palette {
         Self::new(e.c0_f, e.c1_f)
     }
 
+    // How many sevenths towards c0, before it is cut to a whole number.
+    pub fn blend(self, pixel: f32) -> f32
+        ensures { λ r. ⌜ r ≡ blendOf self pixel ⌝ }
+    {
+        pixel * self.factor1 + self.add1
+    }
+
     fn blend7(self, pixel: f32) -> u32
         ensures { λ r. ⌜ (r ≡ blend7Of self pixel) × (r ≤ 7) ⌝ }
     {
-        floats::byte_up_to_7(pixel * self.factor1 + self.add1)
+        floats::byte_up_to_7(self.blend(pixel))
     }
 
     // k counts sevenths: 8 less the index that a decoder reads.
@@ -111,7 +125,7 @@ impl Inter6Palette {
     fn value(self, pixel: f32) -> f32
         ensures { λ r. ⌜ r ≡ blendedOf self (blend7Of self pixel) ⌝ }
     {
-        floats::up_to_7(pixel * self.factor1 + self.add1) * self.factor2 + self.c1
+        floats::up_to_7(self.blend(pixel)) * self.factor2 + self.c1
     }
 
     // `map` is INDEX_MAP: a constant array that is read in a loop would be built anew at each turn.
@@ -132,7 +146,7 @@ impl Inter6Palette {
     pub fn closest_weight(self, pixel: f32) -> f32
         ensures { λ r. ⌜ r ≡ weight self pixel ⌝ }
     {
-        let blend = floats::lane_min(pixel * self.factor1 + self.add1, 7.0);
+        let blend = floats::lane_min(self.blend(pixel), 7.0);
         1.0 - floats::trunc(blend) * F1
     }
 
