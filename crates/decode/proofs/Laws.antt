@@ -1,8 +1,9 @@
 -- The sum of a block error by one pixel more, a decoded sample by its pixel, and the sizes of bytes and indexes. Assumes nothing.
-use mathlib.Core.Path.{_≡_, sym, _∙_}
+use mathlib.Core.Path.{_≡_, sym, ap, _∙_}
 use mathlib.Core.List.{List}
 use mathlib.Core.Bool.{Bool}
-use Prim.Native.Nat.{ℕ, _+_, _*_, _%_, _^_, _<_}
+use Prim.Native.Nat.{ℕ, _+_, _*_, _/_, _%_, _^_, _<_}
+use native.Mathlib.Nat.{div-one}
 use native.Mathlib.Numerals.{add-one}
 use native.Mathlib.Omega.{arith}
 use lib.Ieee.{Float, nan}
@@ -13,7 +14,8 @@ use Rattle.index_list.specs.Layout.{byteAt, bytesOf, fromBytes}
 use Rattle.index_list.proofs.Laws.{bits-low, from-bytesOf}
 use Rattle.block.specs.Samples.{pixelAt, perPixel}
 use Rattle.block.proofs.Fill.{length-tabulate, getD-tabulate}
-use Rattle.decode.specs.Meaning.{blockIndex, sampleAt, decoded}
+use Rattle.values.specs.Values.{valueOf}
+use Rattle.decode.specs.Meaning.{isSix, eightOf, tableOf, blockIndex, picked, sampleAt, decoded}
 use Rattle.decode.specs.BlockError.{sampleError, errorTo, blockError}
 
 pub errorTo-more : (s v : List Float) (k : ℕ) → errorTo s v (k + 1) ≡ errorTo s v k ⊕ sampleError (pixelAt s k) (pixelAt v k)
@@ -23,6 +25,14 @@ errorTo-more s v k = rw add-one
 pub decoded-at : (snorm : Bool) (n i : ℕ) → i < 16 → pixelAt (decoded snorm n) i ≡ sampleAt snorm n i
 unfolding decoded
 decoded-at snorm n i h = getD-tabulate (sampleAt snorm n) nan 16 i h
+
+-- What the floats of a block's two bytes pick are its samples.
+pub picked-decoded : (snorm : Bool) (n : ℕ) (x y : Float) (six : Bool) → x ≡ valueOf snorm (n % 256) → y ≡ valueOf snorm (n / 2 ^ 8 % 256)
+    → six ≡ isSix snorm (n % 256) (n / 2 ^ 8 % 256) → perPixel (picked (eightOf six x y) n) ≡ decoded snorm n
+unfolding decoded tableOf
+picked-decoded snorm n x y six ex ey es =
+    let e : eightOf six x y ≡ tableOf snorm (byteAt n 0) (byteAt n 1) = rw (es, ex, ey, div-one) in
+    ap (λ (eight : List Float). perPixel (picked eight n)) e
 
 pub byte-lt : (n j : ℕ) → byteAt n j < 256
 byte-lt n j = omega arith

@@ -21,9 +21,13 @@ sixValues c0 c1 =
     let p = inter6Palette c0 c1 in
     c0 ∷ c1 ∷ blended p 6 ∷ blended p 5 ∷ blended p 4 ∷ blended p 3 ∷ blended p 2 ∷ blended p 1 ∷ []
 
--- the eight decoded floats of two bytes, by index; four-value ones are the palette's entries
+-- the eight decoded floats of two ends, by index; four-value ones are the palette's entries
+abbrev pub eightOf : Bool → Float → Float → List Float
+eightOf six c0 c1 = cond six (sixValues c0 c1) (colors c0 c1)
+
+-- and of two bytes
 unfoldable pub tableOf : Bool → ℕ → ℕ → List Float
-tableOf snorm c0 c1 = cond (isSix snorm c0 c1) (sixValues (valueOf snorm c0) (valueOf snorm c1)) (colors (valueOf snorm c0) (valueOf snorm c1))
+tableOf snorm c0 c1 = eightOf (isSix snorm c0 c1) (valueOf snorm c0) (valueOf snorm c1)
 
 abbrev pub valueAt : Bool → ℕ → ℕ → ℕ → Float
 valueAt snorm c0 c1 k = entry (tableOf snorm c0 c1) k
@@ -31,6 +35,10 @@ valueAt snorm c0 c1 k = entry (tableOf snorm c0 c1) k
 -- the index of pixel i of a block
 abbrev pub blockIndex : ℕ → ℕ → ℕ
 blockIndex n i = indexAt (n / 2 ^ 16) i
+
+-- the one of eight values that it picks
+abbrev pub picked : List Float → ℕ → ℕ → Float
+picked eight n i = entry eight (blockIndex n i)
 
 -- the decoded sample of pixel i
 abbrev pub sampleAt : Bool → ℕ → ℕ → Float

@@ -1,6 +1,7 @@
 // Document 01, "Eight bytes" and block error. A block is one number, byte 0 lowest.
 ghost use mathlib.Core.Path.{_≡_};
-ghost use Rattle.decode.specs.Meaning.{isSix, sixValues, tableOf, decoded};
+ghost use Rattle.block.specs.Samples.{perPixel};
+ghost use Rattle.decode.specs.Meaning.{isSix, sixValues, eightOf, picked, decoded};
 ghost use Rattle.decode.specs.BlockError.{sampleError, errorTo, blockError};
 use index_list::IndexList;
 use palette::inter4::Inter4Palette;
@@ -29,33 +30,21 @@ fn six_values(c0: f32, c1: f32) -> [f32; 8]
     ]
 }
 
-// Each mode works its two ends out by itself: ahead of the test the compiler makes one vector of them, which both have to take apart again.
-fn values_in(c0: u8, c1: u8, snorm: bool) -> [f32; 8]
-    ensures { λ r. ⌜ r ≡ tableOf snorm c0 c1 ⌝ }
+fn eight_values(c0: f32, c1: f32, six: bool) -> [f32; 8]
+    ensures { λ r. ⌜ r ≡ eightOf six c0 c1 ⌝ }
 {
-    if is_six(c0, c1, snorm) {
-        return six_values(values::value(c0, snorm), values::value(c1, snorm));
+    if six {
+        return six_values(c0, c1);
     }
-    let y = values::value(c1, snorm);
-    let p = Inter4Palette::new(values::value(c0, snorm), y);
+    let p = Inter4Palette::new(c0, c1);
     p.colors
 }
 
-// The eight decoded values, by index. The format is told apart here, once, so that each gets straight code.
-pub fn table(c0: u8, c1: u8, snorm: bool) -> [f32; 8]
-    ensures { λ r. ⌜ r ≡ tableOf snorm c0 c1 ⌝ }
+// Sixteen samples of two ends: eight values are worked out once, and looked up sixteen times.
+fn pick(block: u64, c0: f32, c1: f32, six: bool, out: &mut [f32; 16])
+    ensures { λ _. ⌜ now (out .exit) ≡ perPixel (picked (eightOf six c0 c1) block) ⌝ }
 {
-    if snorm {
-        return values_in(c0, c1, true);
-    }
-    values_in(c0, c1, false)
-}
-
-// Sixteen samples into the caller's array. The eight values are worked out once, and looked up sixteen times.
-pub fn decode_into(block: u64, snorm: bool, out: &mut [f32; 16])
-    ensures { λ _. ⌜ now (out .exit) ≡ decoded snorm block ⌝ }
-{
-    let eight = table((block % 256) as u8, ((block >> 8) % 256) as u8, snorm);
+    let eight = eight_values(c0, c1, six);
     let list = IndexList { data: block >> 16 };
     let mut samples = [0.0f32; 16];
     for i in 0..16usize {
@@ -63,6 +52,23 @@ pub fn decode_into(block: u64, snorm: bool, out: &mut [f32; 16])
         samples[i] = eight[at];
     }
     *out = samples;
+}
+
+// Sixteen samples into the caller's array. The format is told apart here, so that each gets straight code.
+pub fn decode_into(block: u64, snorm: bool, out: &mut [f32; 16])
+    ensures { λ _. ⌜ now (out .exit) ≡ decoded snorm block ⌝ }
+{
+    let c0 = (block % 256) as u8;
+    let c1 = ((block >> 8) % 256) as u8;
+    if snorm {
+        let x = values::value(c0, true);
+        let y = values::value(c1, true);
+        pick(block, x, y, is_six(c0, c1, true), out);
+    } else {
+        let x = values::value(c0, false);
+        let y = values::value(c1, false);
+        pick(block, x, y, is_six(c0, c1, false), out);
+    }
 }
 
 fn sample_error(sample: f32, value: f32) -> f32

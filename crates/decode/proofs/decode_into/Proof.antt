@@ -1,89 +1,67 @@
-use mathlib.Core.Path.{_≡_, refl}
-use Prim.Native.Nat.{_≤_, _-_}
-use native.Mathlib.Nat.{div-one}
-use native.Mathlib.Omega.{arith}
-use lib.Ieee.{nan}
+use mathlib.Core.Path.{_∙_}
+use mathlib.Core.Bool.{true, false}
+use Rattle.decode.proofs.Laws.{picked-decoded}
 use borrow.Author.Needs.{needs}
-use Rattle.palette.specs.Palettes.{entry}
-use Rattle.block.proofs.Fill.{Filled, fill-start, fill-step, fill-end}
-use Rattle.decode.specs.Meaning.{sampleAt, decoded}
 use Rattle.decode.proofs.decode_into.Statement.{statement}
 use Rattle.decode.proofs.decode_into.Tie as tie
 
-abbrev Inv-loop : tie.InvT-loop
-Inv-loop block snorm lent eight list out₀ i₀ out i = (i ≤ 16) × Filled nan (sampleAt snorm block) 16 out i
+cast-c0 : tie.Need-cast-c0
+cast-c0 c = search needs
 
-abbrev μ-loop : tie.MeasureT-loop
-μ-loop block snorm lent eight list out₀ i₀ out i = 16 - i
+cast-c1 : tie.Need-cast-c1
+cast-c1 c = search needs
 
-cast-table : tie.Need-cast-table Inv-loop μ-loop
-cast-table c = search needs
+value-requires : tie.Need-value-requires
+value-requires c κs = search needs
 
-cast-table-2 : tie.Need-cast-table-2 Inv-loop μ-loop
-cast-table-2 c = search needs
+value-requires-2 : tie.Need-value-requires-2
+value-requires-2 c κs = search needs
 
-table-requires : tie.Need-table-requires Inv-loop μ-loop
-table-requires c κs = search needs
+is-six-requires : tie.Need-is-six-requires
+is-six-requires c κs = search needs
 
-loop-holds : tie.Need-loop-holds Inv-loop μ-loop
-loop-holds c = (search needs, fill-start nan _ 16 _ refl)
+pick-requires : tie.Need-pick-requires
+pick-requires c κs = search needs
 
-get-requires : tie.Need-get-requires Inv-loop μ-loop
-get-requires c κs = search needs
+value-requires-3 : tie.Need-value-requires-3
+value-requires-3 c κs = search needs
 
-cast-at : tie.Need-cast-at Inv-loop μ-loop
-cast-at c = search needs
+value-requires-4 : tie.Need-value-requires-4
+value-requires-4 c κs = search needs
 
-mul-samples : tie.Need-mul-samples Inv-loop μ-loop
-mul-samples c = search needs
+is-six-requires-2 : tie.Need-is-six-requires-2
+is-six-requires-2 c κs = search needs
 
-array-read-samples : tie.Need-array-read-samples Inv-loop μ-loop
-array-read-samples c = search needs
+pick-requires-2 : tie.Need-pick-requires-2
+pick-requires-2 c κs = search needs
 
-mul-samples-2 : tie.Need-mul-samples-2 Inv-loop μ-loop
-mul-samples-2 c = search needs
-
-array-write-samples : tie.Need-array-write-samples Inv-loop μ-loop
-array-write-samples c = search needs
-
-add-i : tie.Need-add-i Inv-loop μ-loop
-add-i c = search needs
-
-loop-less : tie.Need-loop-less Inv-loop μ-loop
-loop-less c = search needs
-
-loop-again : tie.Need-loop-again Inv-loop μ-loop
-loop-again c =
-    let h = c .before .before in
-    let a = h .before .before .args in
-    let v = entry (h .before .table .result) (c .get .result) in
-    let e : v ≡ sampleAt (a .snorm) (a .block) (h .loop .i) = rw (c .get .ensures, h .before .table .ensures, div-one) in
-    (search needs, fill-step nan (sampleAt (a .snorm) (a .block)) 16 (h .loop .samples) (h .loop .i) v (h .loop .inv .1) (c .before .loop-test .taken) e)
-
-returns : tie.Need-returns Inv-loop μ-loop
-unfolding decoded
+returns : tie.Need-returns
 returns c =
-    let h = c .before in
-    let a = h .before .before .args in
-    fill-end nan (sampleAt (a .snorm) (a .block)) 16 (h .loop .samples) (h .loop .i) (h .loop .inv .1) (omega arith)
+    let s = c .before .before in
+    let v = s .before .before in
+    let t = v .before in
+    rw (t .if1 .taken) (c .pick .ensures ∙ picked-decoded true (t .before .args .block) _ _ _ (v .value .ensures) (s .before .value2 .ensures) (s .is-six .ensures))
+
+returns-2 : tie.Need-returns-2
+returns-2 c =
+    let s = c .before .before in
+    let v = s .before .before in
+    let t = v .before in
+    rw (t .if1 .left) (c .pick2 .ensures ∙ picked-decoded false (t .before .args .block) _ _ _ (v .value3 .ensures) (s .before .value4 .ensures) (s .is-six2 .ensures))
 
 pub decode-into-spec : {M : Type 1} → statement M
 decode-into-spec =
     tie.close
     (tie.spec
-    Inv-loop
-    μ-loop
-    cast-table
-    cast-table-2
-    table-requires
-    loop-holds
-    get-requires
-    cast-at
-    mul-samples
-    array-read-samples
-    mul-samples-2
-    array-write-samples
-    add-i
-    loop-less
-    loop-again
-    returns)
+    cast-c0
+    cast-c1
+    value-requires
+    value-requires-2
+    is-six-requires
+    pick-requires
+    value-requires-3
+    value-requires-4
+    is-six-requires-2
+    pick-requires-2
+    returns
+    returns-2)

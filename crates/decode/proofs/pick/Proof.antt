@@ -1,0 +1,80 @@
+use mathlib.Core.Path.{_≡_, refl}
+use Prim.Native.Nat.{_≤_, _-_}
+use native.Mathlib.Omega.{arith}
+use lib.Ieee.{nan}
+use borrow.Author.Needs.{needs}
+use Rattle.palette.specs.Palettes.{entry}
+use Rattle.block.proofs.Fill.{Filled, fill-start, fill-step, fill-end}
+use Rattle.decode.specs.Meaning.{eightOf, picked}
+use Rattle.decode.proofs.pick.Statement.{statement}
+use Rattle.decode.proofs.pick.Tie as tie
+
+abbrev Inv-loop : tie.InvT-loop
+Inv-loop block c0 c1 six out eight list samples₀ i₀ samples i = (i ≤ 16) × Filled nan (picked (eightOf six c0 c1) block) 16 samples i
+
+abbrev μ-loop : tie.MeasureT-loop
+μ-loop block c0 c1 six out eight list samples₀ i₀ samples i = 16 - i
+
+eight-values-requires : tie.Need-eight-values-requires Inv-loop μ-loop
+eight-values-requires c κs = search needs
+
+loop-holds : tie.Need-loop-holds Inv-loop μ-loop
+loop-holds c = (search needs, fill-start nan _ 16 _ refl)
+
+get-requires : tie.Need-get-requires Inv-loop μ-loop
+get-requires c κs = search needs
+
+cast-at : tie.Need-cast-at Inv-loop μ-loop
+cast-at c = search needs
+
+mul-samples : tie.Need-mul-samples Inv-loop μ-loop
+mul-samples c = search needs
+
+array-read-samples : tie.Need-array-read-samples Inv-loop μ-loop
+array-read-samples c = search needs
+
+mul-samples-2 : tie.Need-mul-samples-2 Inv-loop μ-loop
+mul-samples-2 c = search needs
+
+array-write-samples : tie.Need-array-write-samples Inv-loop μ-loop
+array-write-samples c = search needs
+
+add-i : tie.Need-add-i Inv-loop μ-loop
+add-i c = search needs
+
+loop-less : tie.Need-loop-less Inv-loop μ-loop
+loop-less c = search needs
+
+loop-again : tie.Need-loop-again Inv-loop μ-loop
+loop-again c =
+    let h = c .before .before in
+    let a = h .before .before .args in
+    let f = picked (eightOf (a .six) (a .c0) (a .c1)) (a .block) in
+    let v = entry (h .before .eight-values .result) (c .get .result) in
+    let e : v ≡ f (h .loop .i) = rw (c .get .ensures, h .before .eight-values .ensures) in
+    (search needs, fill-step nan f 16 (h .loop .samples) (h .loop .i) v (h .loop .inv .1) (c .before .loop-test .taken) e)
+
+returns : tie.Need-returns Inv-loop μ-loop
+returns c =
+    let h = c .before in
+    let a = h .before .before .args in
+    fill-end nan (picked (eightOf (a .six) (a .c0) (a .c1)) (a .block)) 16 (h .loop .samples) (h .loop .i) (h .loop .inv .1) (omega arith)
+
+pub pick-spec : {M : Type 1} → statement M
+pick-spec =
+    tie.close
+    (tie.spec
+    Inv-loop
+    μ-loop
+    eight-values-requires
+    loop-holds
+    get-requires
+    cast-at
+    mul-samples
+    array-read-samples
+    mul-samples-2
+    array-write-samples
+    add-i
+    loop-less
+    loop-again
+    returns)
