@@ -31,11 +31,11 @@ use Rattle.bc4.proofs.block_view.Kinds as block-view-kinds
 use Rattle.bc4.proofs.block_view.Reads as block-view
 
 module _ (n : ℕ) (ps : List (PK n)) (r : RK n) (post : Out n ps r) where
-  abbrev One-answer : Type 0
+  abbrev pub One-answer : Type 0
   One-answer = (κs : Lfts n) (a : Dens κs ps) (x y : resT r κs .Denot) (s t : AtExit (endedOf n ps r) κs) → post κs a x s → post κs a y t → x ≡ y
 
   -- a part of what lent memory holds
-  abbrev One-end : {A : Type 0} → ((κs : Lfts n) → AtExit (endedOf n ps r) κs → A) → Type 0
+  abbrev pub One-end : {A : Type 0} → ((κs : Lfts n) → AtExit (endedOf n ps r) κs → A) → Type 0
   One-end part = (κs : Lfts n) (a : Dens κs ps) (x y : resT r κs .Denot) (s t : AtExit (endedOf n ps r) κs) → post κs a x s → post κs a y t → part κs s ≡ part κs t
 
 pub encode-determined : One-answer 1 encode-block-kinds.ps encode-block-kinds.r encode-block.Post

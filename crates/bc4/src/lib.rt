@@ -8,9 +8,11 @@ ghost use Rattle.bc4.specs.Calls.{encodeAnswer, samplesAfter, errorAnswe
 
 pub mod word;
 
-use refine::options::Options;
-use refusal::Checked;
-use refusal::Refusal;
+pub use refine::options::Options;
+pub use refine::options::Quantization;
+pub use refusal::Checked;
+pub use refusal::Refusal;
+pub use refusal::number;
 
 pub enum Encoded {
     Block(u64),

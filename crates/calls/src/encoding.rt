@@ -2,9 +2,9 @@
 use crate::given;
 use crate::show;
 use bc4::Encoded;
+use bc4::Options;
 use given::NONE;
 use given::Sixteen;
-use refine::options::Options;
 
 pub fn shown(e: Encoded) {
     match e {

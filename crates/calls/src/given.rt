@@ -1,6 +1,6 @@
 // What the cases give to the calls.
-use refine::options::Options;
-use refine::options::Quantization;
+use bc4::Options;
+use bc4::Quantization;
 
 // Past any sample that is given: no NaN.
 pub const NONE: usize = 0xffff_ffff;

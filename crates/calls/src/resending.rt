@@ -2,10 +2,10 @@
 use crate::given;
 use crate::show;
 use bc4::Held;
+use bc4::Options;
 use bc4::Resent;
 use given::NONE;
 use given::Sixteen;
-use refine::options::Options;
 
 // The bytes to hold, after a word for the flag.
 fn held_or_fresh(h: Held) {

@@ -4,10 +4,10 @@ ghost use mathlib.Core.Bool.{not};
 ghost use lib.Dec.{T};
 ghost use lib.Ieee.{isNan};
 use crate::given;
+use bc4::Checked;
+use bc4::Refusal;
 use given::Sixteen;
 use libc::STDOUT_FILENO;
-use refusal::Checked;
-use refusal::Refusal;
 
 pub fn text(t: &[u8]) {
     io::write_all(STDOUT_FILENO, t);
@@ -75,7 +75,7 @@ pub fn floats(x: &[f32; 16]) {
 // The document's number, and the index that comes with a NaN.
 pub fn refused(q: Refusal) {
     text(b"refused ");
-    number(refusal::number(q) as usize);
+    number(bc4::number(q) as usize);
     if let Refusal::SampleIsNan(i) = q {
         text(b" at ");
         number(i);

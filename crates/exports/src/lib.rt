@@ -6,13 +6,13 @@ ghost use lib.ListN.{length};
 ghost use Rattle.refusal.specs.Refusals.{numberOf, lowest, decodeChecks, viewChecks};
 ghost use Rattle.bc4.specs.Calls.{ofEncoded, ofScored, ofResent, ofTiled, samplesAfter, errorAnswer, outAfter};
 ghost use Rattle.exports.specs.Border.{wordIn, encodeFor, resendFor, tileFor, numberIn, nanOn, nanAfter, blockAfter, errorAfter, heldAfter, freshAfter, writtenAfter, offsetAfter};
+use bc4::Checked;
 use bc4::Encoded;
+use bc4::Refusal;
 use bc4::Resent;
 use bc4::Scored;
 use bc4::Tiled;
 use bc4::word::Word;
-use refusal::Checked;
-use refusal::Refusal;
 
 // Major, minor and patch number, a byte each: 1.0.0.
 #[no_mangle]
@@ -44,7 +44,7 @@ fn number_in(checked: Checked) -> u32
 {
     match checked {
         Checked::Passed => 0,
-        Checked::Refused(q) => wide(refusal::number(q)),
+        Checked::Refused(q) => wide(bc4::number(q)),
     }
 }
 
@@ -56,7 +56,7 @@ fn refused(q: Refusal, nan: &mut usize) -> u32
         *nan = i;
         return 7;
     }
-    wide(refusal::number(q))
+    wide(bc4::number(q))
 }
 
 #[no_mangle]
@@ -182,7 +182,7 @@ pub extern "C" fn bc4_block_view(
 {
     let checked = bc4::view_refusal(tile, width, height, column, row);
     match checked {
-        Checked::Refused(q) => wide(refusal::number(q)),
+        Checked::Refused(q) => wide(bc4::number(q)),
         Checked::Passed => {
             *offset = place::block_at(width, column, row);
             0

@@ -1,10 +1,10 @@
 // The public calls on sixteen samples and eight bytes. An answer is 0, or the number of the refusal; what comes with it is in `out`.
+use bc4::Checked;
 use bc4::Encoded;
+use bc4::Options;
+use bc4::Quantization;
 use bc4::Resent;
 use bc4::Scored;
-use refine::options::Options;
-use refine::options::Quantization;
-use refusal::Checked;
 
 // As bytes 0, 1 and 2 of a record's word have them.
 fn options(flags: u8, limit: u8, quality: u8) -> Options {
@@ -41,7 +41,7 @@ pub extern "C" fn inner_encode_block(
 ) -> u8 {
     let encoded = bc4::encode_block(samples, options(flags, limit, quality));
     match encoded {
-        Encoded::Refused(q) => refusal::number(q),
+        Encoded::Refused(q) => bc4::number(q),
         Encoded::Block(b) => {
             *out = b;
             0
@@ -53,7 +53,7 @@ pub extern "C" fn inner_encode_block(
 pub extern "C" fn inner_decode_block(encoded: &[u8; 8], snorm: bool, out: &mut [f32; 16]) -> u8 {
     let checked = bc4::decode_block(encoded, snorm, out);
     match checked {
-        Checked::Refused(q) => refusal::number(q),
+        Checked::Refused(q) => bc4::number(q),
         Checked::Passed => 0,
     }
 }
@@ -67,7 +67,7 @@ pub extern "C" fn inner_block_error(
 ) -> u8 {
     let scored = bc4::block_error(samples, encoded, snorm);
     match scored {
-        Scored::Refused(q) => refusal::number(q),
+        Scored::Refused(q) => bc4::number(q),
         Scored::Error(x) => {
             *out = x;
             0
@@ -87,7 +87,7 @@ pub extern "C" fn inner_resend(
 ) -> u8 {
     let resent = bc4::resend(samples, held, options(flags, limit, quality));
     match resent {
-        Resent::Refused(q) => refusal::number(q),
+        Resent::Refused(q) => bc4::number(q),
         Resent::Block(h) => {
             *out = h.block;
             *fresh = h.fresh;

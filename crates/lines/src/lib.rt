@@ -25,7 +25,7 @@ fn line(answer: Encoded) -> Line
 {
     match answer {
         Encoded::Block(block) => output::hex(block),
-        Encoded::Refused(q) => output::refused(refusal::number(q)),
+        Encoded::Refused(q) => output::refused(bc4::number(q)),
     }
 }
 
