@@ -28,11 +28,11 @@ decoded-at snorm n i h = getD-tabulate (sampleAt snorm n) nan 16 i h
 
 -- What the floats of a block's two bytes pick are its samples.
 pub picked-decoded : (snorm : Bool) (n : ℕ) (x y : Float) (six : Bool) → x ≡ valueOf snorm (n % 256) → y ≡ valueOf snorm (n / 2 ^ 8 % 256)
-    → six ≡ isSix snorm (n % 256) (n / 2 ^ 8 % 256) → perPixel (picked (eightOf six x y) n) ≡ decoded snorm n
+    → six ≡ isSix snorm (n % 256) (n / 2 ^ 8 % 256) → perPixel (picked (eightOf six x y) (n / 2 ^ 16)) ≡ decoded snorm n
 unfolding decoded tableOf
 picked-decoded snorm n x y six ex ey es =
     let e : eightOf six x y ≡ tableOf snorm (byteAt n 0) (byteAt n 1) = rw (es, ex, ey, div-one) in
-    ap (λ (eight : List Float). perPixel (picked eight n)) e
+    ap (λ (eight : List Float). perPixel (picked eight (n / 2 ^ 16))) e
 
 pub byte-lt : (n j : ℕ) → byteAt n j < 256
 byte-lt n j = omega arith

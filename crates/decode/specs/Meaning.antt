@@ -32,13 +32,13 @@ tableOf snorm c0 c1 = eightOf (isSix snorm c0 c1) (valueOf snorm c0) (valueOf sn
 abbrev pub valueAt : Bool → ℕ → ℕ → ℕ → Float
 valueAt snorm c0 c1 k = entry (tableOf snorm c0 c1) k
 
+-- the one of eight values that pixel i picks, by the indexes' bits
+abbrev pub picked : List Float → ℕ → ℕ → Float
+picked eight d i = entry eight (indexAt d i)
+
 -- the index of pixel i of a block
 abbrev pub blockIndex : ℕ → ℕ → ℕ
 blockIndex n i = indexAt (n / 2 ^ 16) i
-
--- the one of eight values that it picks
-abbrev pub picked : List Float → ℕ → ℕ → Float
-picked eight n i = entry eight (blockIndex n i)
 
 -- the decoded sample of pixel i
 abbrev pub sampleAt : Bool → ℕ → ℕ → Float

@@ -41,11 +41,10 @@ fn eight_values(c0: f32, c1: f32, six: bool) -> [f32; 8]
 }
 
 // Sixteen samples of two ends: eight values are worked out once, and looked up sixteen times.
-fn pick(block: u64, c0: f32, c1: f32, six: bool, out: &mut [f32; 16])
-    ensures { λ _. ⌜ now (out .exit) ≡ perPixel (picked (eightOf six c0 c1) block) ⌝ }
+fn pick(list: IndexList, c0: f32, c1: f32, six: bool, out: &mut [f32; 16])
+    ensures { λ _. ⌜ now (out .exit) ≡ perPixel (picked (eightOf six c0 c1) (list .data)) ⌝ }
 {
     let eight = eight_values(c0, c1, six);
-    let list = IndexList { data: block >> 16 };
     let mut samples = [0.0f32; 16];
     for i in 0..16usize {
         let at = list.get(i) as usize;
@@ -60,14 +59,15 @@ pub fn decode_into(block: u64, snorm: bool, out: &mut [f32; 16])
 {
     let c0 = (block % 256) as u8;
     let c1 = ((block >> 8) % 256) as u8;
+    let list = IndexList { data: block >> 16 };
     if snorm {
         let x = values::value(c0, true);
         let y = values::value(c1, true);
-        pick(block, x, y, is_six(c0, c1, true), out);
+        pick(list, x, y, is_six(c0, c1, true), out);
     } else {
         let x = values::value(c0, false);
         let y = values::value(c1, false);
-        pick(block, x, y, is_six(c0, c1, false), out);
+        pick(list, x, y, is_six(c0, c1, false), out);
     }
 }
 

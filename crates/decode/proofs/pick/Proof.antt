@@ -10,10 +10,10 @@ use Rattle.decode.proofs.pick.Statement.{statement}
 use Rattle.decode.proofs.pick.Tie as tie
 
 abbrev Inv-loop : tie.InvT-loop
-Inv-loop block c0 c1 six out eight list samples₀ i₀ samples i = (i ≤ 16) × Filled nan (picked (eightOf six c0 c1) block) 16 samples i
+Inv-loop list c0 c1 six out eight samples₀ i₀ samples i = (i ≤ 16) × Filled nan (picked (eightOf six c0 c1) (list .data)) 16 samples i
 
 abbrev μ-loop : tie.MeasureT-loop
-μ-loop block c0 c1 six out eight list samples₀ i₀ samples i = 16 - i
+μ-loop list c0 c1 six out eight samples₀ i₀ samples i = 16 - i
 
 eight-values-requires : tie.Need-eight-values-requires Inv-loop μ-loop
 eight-values-requires c κs = search needs
@@ -49,7 +49,7 @@ loop-again : tie.Need-loop-again Inv-loop μ-loop
 loop-again c =
     let h = c .before .before in
     let a = h .before .before .args in
-    let f = picked (eightOf (a .six) (a .c0) (a .c1)) (a .block) in
+    let f = picked (eightOf (a .six) (a .c0) (a .c1)) (a .list .data) in
     let v = entry (h .before .eight-values .result) (c .get .result) in
     let e : v ≡ f (h .loop .i) = rw (c .get .ensures, h .before .eight-values .ensures) in
     (search needs, fill-step nan f 16 (h .loop .samples) (h .loop .i) v (h .loop .inv .1) (c .before .loop-test .taken) e)
@@ -58,7 +58,7 @@ returns : tie.Need-returns Inv-loop μ-loop
 returns c =
     let h = c .before in
     let a = h .before .before .args in
-    fill-end nan (picked (eightOf (a .six) (a .c0) (a .c1)) (a .block)) 16 (h .loop .samples) (h .loop .i) (h .loop .inv .1) (omega arith)
+    fill-end nan (picked (eightOf (a .six) (a .c0) (a .c1)) (a .list .data)) 16 (h .loop .samples) (h .loop .i) (h .loop .inv .1) (omega arith)
 
 pub pick-spec : {M : Type 1} → statement M
 pick-spec =
