@@ -42,7 +42,7 @@ blockIndex n i = indexAt (n / 2 ^ 16) i
 
 -- the decoded sample of pixel i
 abbrev pub sampleAt : Bool → ℕ → ℕ → Float
-sampleAt snorm n i = valueAt snorm (byteAt n 0) (byteAt n 1) (blockIndex n i)
+sampleAt snorm n i = picked (tableOf snorm (byteAt n 0) (byteAt n 1)) (n / 2 ^ 16) i
 
 unfoldable pub decoded : Bool → ℕ → List Float
 decoded snorm n = perPixel (sampleAt snorm n)

@@ -1,4 +1,4 @@
-use Rattle.single.proofs.Closer.{nearest-is}
+use Rattle.single.proofs.Steps.{nearest-is}
 use Rattle.palette.proofs.ClosestLaws.{closest6-lt, closest4-lt}
 use borrow.Author.Needs.{needs}
 use Rattle.single.proofs.nearest.Statement.{statement}

@@ -12,6 +12,9 @@ use Rattle.palette.specs.Closest.{closest6, closest4}
 use Rattle.single.specs.Single.{uniform, nearest}
 
 pub nearest-is :
-    (snorm : Bool) (v : Float) (e6 e4 : EndPoints) (p6 : Inter6Palette) (c4 : List Float) (k6 k4 : Closest) → e6 ≡ inter6 snorm v v → e4 ≡ inter4 snorm v v → p6 ≡ inter6Palette (e6 .«c0_f») (e6 .«c1_f») → c4 ≡ colors (e4 .«c0_f») (e4 .«c1_f») → k6 ≡ closest6 p6 v → k4 ≡ closest4 c4 v → nearest snorm v ≡ cond (lt (k4 .error) (k6 .error)) (uniform e4 (k4 .index)) (uniform e6 (k6 .index))
+    (snorm : Bool) (v : Float) (e6 e4 : EndPoints) (p6 : Inter6Palette) (c4 : List Float) (k6 k4 : Closest)
+    → e6 ≡ inter6 snorm v v → e4 ≡ inter4 snorm v v → p6 ≡ inter6Palette (e6 .«c0_f») (e6 .«c1_f») → c4 ≡ colors (e4 .«c0_f») (e4 .«c1_f»)
+    → k6 ≡ closest6 p6 v → k4 ≡ closest4 c4 v
+    → nearest snorm v ≡ cond (lt (k4 .error) (k6 .error)) (uniform e4 (k4 .index)) (uniform e6 (k6 .index))
 unfolding nearest
 nearest-is snorm v e6 e4 p6 c4 k6 k4 a b c d e f = rw (f, e, d, c, b, a)
