@@ -397,6 +397,19 @@ def tile_lines():
         lines.append(f"tile 4 by 4{format_of(snorm)}: written 8 {block}, block {block}")
 
 
+def end_lines():
+    """The run value of document 01, and its values 2 to 6 worked by hand, as they stand there."""
+    for x, snorm, c0, c1 in [
+        ("0.5", False, 128, 127),
+        ("0", False, 1, 0),
+        ("1", False, 255, 254),
+        ("0", True, 0x82, 0x81),
+        ("1", True, 0x7F, 0x7E),
+        ("NaN", False, 255, 0),
+    ]:
+        lines.append(f"six-value ends of {x} and {x}{format_of(snorm)}: {bytes([c0, c1]).hex()}")
+
+
 def view_lines():
     def viewed(width, height, length, column, row):
         answer = view(given_bytes(length), width, height, column, row)
@@ -446,6 +459,7 @@ resend_lines()
 tile_lines()
 view_lines()
 large_lines()
+end_lines()
 with open(sys.argv[2], "w") as handle:
     handle.write("".join(line + "\n" for line in lines))
 print(len(lines), "lines")

@@ -1,12 +1,16 @@
 /* BC4 blocks: sixteen samples in eight bytes. The calls of the static library `exports` (crates/exports), for C99 and C++ on x86-64.
 
    A call answers 0, or the number of a refusal: of all that apply, the lowest. A refused call changes nothing that it was lent, but for
-   *nan_index on BC4_SAMPLE_IS_NAN. No call reads or writes outside what it is lent, and each ends for every input. That, and every value written, is
-   proved, as far as the caller keeps its part. No call allocates, keeps a pointer or has a state: the language it is written in has no means for it.
+   *nan_index on BC4_SAMPLE_IS_NAN; on any other answer, 0 included, *nan_index stays as it was. No call reads or writes outside what it is lent, and
+   each ends for every input. That, and every value written, is proved, as far as the caller keeps its part. No call allocates, keeps a pointer or has
+   a state: the language it is written in has no means for it. So calls may run in any number of threads at once. A call takes less than 4 KiB of stack.
    The caller's part:
    - No pointer is null. A pointer that comes with a length has so many elements behind it, any other one as many as its type says.
-   - What a call writes to overlaps nothing else that it is lent.
-   The library needs nothing but `memset`. */
+   - What a call writes to overlaps nothing else that it is lent, to this call or to one in another thread.
+   - The thread's floating-point environment is the one that a program starts with: rounding to nearest, no flush to zero, denormals not taken as zero
+     (linking with -ffast-math may change both), exceptions masked. Else bytes and samples may be others than the proved ones, and a call may raise SIGFPE.
+     A call may leave status flags set.
+   What the library needs of its program: memcpy, memset. */
 #ifndef BC4_H
 #define BC4_H
 
@@ -28,7 +32,8 @@
 #define BC4_SAMPLE_IS_NAN 7u   /* a sample is NaN; *nan_index is the lowest such index */
 #define BC4_WORD_MALFORMED 8u  /* the options are no sum of the constants below */
 
-/* ---- options: any of the flags, one limit and one quality, or'ed. 0 has no flag, the limit 0 and BC4_ROUND. */
+/* ---- options: any of the flags, one limit and one quality, or'ed. 0 has no flag, the limit 0 and BC4_ROUND. A limit over 255 is 255; the macro reads
+   its argument twice. */
 #define BC4_DITHER 0x01u
 #define BC4_SNORM 0x02u
 #define BC4_BRUTE_FORCE 0x04u
@@ -37,7 +42,7 @@
 #define BC4_FAST_ITER 0x20u
 #define BC4_SIZE_VARIATIONS 0x40u
 #define BC4_ITER_INITIAL_INTER4 0x80u
-#define BC4_MAX_REFINE_ITER(n) ((uint32_t)(uint8_t)(n) << 8)
+#define BC4_MAX_REFINE_ITER(n) ((uint32_t)((uintmax_t)(n) > 255u ? 255u : (uintmax_t)(n)) << 8)
 #define BC4_ROUND 0x000000u
 #define BC4_MEDIUM_QUALITY 0x010000u
 #define BC4_HIGH_QUALITY 0x020000u
@@ -49,11 +54,12 @@ extern "C" {
 /* BC4_VERSION of the library. Refuses nothing. */
 uint32_t bc4_version(void);
 
-/* Encodes sixteen samples, row by row, into block[0..7]. Samples are on the scale 0 to 1; below and above, infinity included, they are clamped.
+/* Encodes sixteen samples, row by row, into block[0..7]. Samples are on the scale 0 to 1, with BC4_SNORM too, where 0 is what a reader of the signed
+   format shows as -1 and 1 as 1; below and above, infinity included, they are clamped.
    Refuses BC4_SAMPLE_COUNT, BC4_SAMPLE_IS_NAN, BC4_WORD_MALFORMED. */
 uint32_t bc4_encode_block(const float *samples, size_t sample_count, uint32_t options, uint8_t *block, size_t *nan_index);
 
-/* Decodes eight bytes into samples[0..15], each in 0 to 1.
+/* Decodes eight bytes into samples[0..15], each in 0 to 1, signed blocks on the scale that bc4_encode_block has.
    Refuses BC4_ENCODED_LENGTH. */
 uint32_t bc4_decode_block(const uint8_t *encoded, size_t encoded_length, bool snorm, float *samples);
 

@@ -152,23 +152,28 @@ static void encode_blocks(void) {
 /* ---- decode block */
 static uint32_t decode(size_t length, bool snorm) { return bc4_decode_block(at(&encoded), length, snorm, at(&decoded)); }
 
-static void decodes(const uint8_t *bytes, bool snorm, float low, float high) {
+/* Each sample is within 1/2,097,152 of num / den, and 0 and 1 are exact. Times den and 2,097,152 both sides are exact in double. */
+static void decodes(const uint8_t *bytes, bool snorm, double num, double den) {
   float got[16];
   lend_all();
   put(&encoded, bytes, 8);
   EXPECT(decode(8, snorm) == BC4_OK);
   take(&decoded, got, sizeof got);
-  for (size_t i = 0; i < 16; i++) EXPECT(low <= got[i] && got[i] <= high);
+  for (size_t i = 0; i < 16; i++) {
+    double off = ((double)got[i] * den - num) * 2097152.0;
+    double most = den == 1 ? 0 : den;
+    EXPECT(-most <= off && off <= most);
+  }
   EXPECT(untouched());
 }
 
 static void decode_blocks(void) {
-  decodes(zeros, false, 0.0f, 0.0f);
-  decodes(ones, false, 1.0f, 1.0f);
-  decodes(signed_zeros, true, 0.0f, 0.0f);
-  decodes(searched_zeros, false, 0.0f, 0.0f);
-  decodes(searched_ones, false, 1.0f, 1.0f);
-  decodes(fifths, false, 0.2f - 5e-7f, 0.2f + 5e-7f);
+  decodes(zeros, false, 0, 1);
+  decodes(ones, false, 1, 1);
+  decodes(signed_zeros, true, 0, 1);
+  decodes(searched_zeros, false, 0, 1);
+  decodes(searched_ones, false, 1, 1);
+  decodes(fifths, false, 1, 5);
   lend_all();
   for (size_t length = 0; length < 20; length++) {
     if (length == 8) continue;
@@ -353,6 +358,7 @@ static void replayed(void) {
 
 int main(void) {
   EXPECT(bc4_version() == BC4_VERSION);
+  EXPECT(BC4_MAX_REFINE_ITER(0) == 0 && BC4_MAX_REFINE_ITER(255) == 0xff00 && BC4_MAX_REFINE_ITER(256) == 0xff00 && BC4_MAX_REFINE_ITER(-1) == 0xff00);
   encode_blocks();
   decode_blocks();
   block_errors();

@@ -2,6 +2,7 @@
 // and the answer with what lent memory holds after it. The file stdout beside src/ was worked out by compare/calls.py, not by this program.
 mod decoding;
 mod encoding;
+mod ends;
 mod errors;
 mod given;
 mod large;
@@ -18,4 +19,5 @@ fn main() {
     tiles::cases();
     views::cases();
     large::cases();
+    ends::cases();
 }

@@ -1,5 +1,7 @@
 // Document 01, "Eight bytes" and block error. A block is one number, byte 0 lowest.
 ghost use mathlib.Core.Path.{_≡_};
+ghost use mathlib.Core.List.{[], _∷_};
+ghost use Rattle.values.specs.Values.{levelValue};
 ghost use Rattle.block.specs.Samples.{perPixel};
 ghost use Rattle.decode.specs.Meaning.{isSix, sixValues, eightOf, picked, decoded};
 ghost use Rattle.decode.specs.BlockError.{sampleError, errorTo, blockError};
@@ -40,17 +42,29 @@ fn eight_values(c0: f32, c1: f32, six: bool) -> [f32; 8]
     p.colors
 }
 
-// Sixteen samples of two ends: eight values are worked out once, and looked up sixteen times.
-fn pick(list: IndexList, c0: f32, c1: f32, six: bool, out: &mut [f32; 16])
-    ensures { λ _. ⌜ now (out .exit) ≡ perPixel (picked (eightOf six c0 c1) (list .data)) ⌝ }
+// Eight values looked up sixteen times.
+fn look_up(list: IndexList, eight: [f32; 8], out: &mut [f32; 16])
+    ensures { λ _. ⌜ now (out .exit) ≡ perPixel (picked eight (list .data)) ⌝ }
 {
-    let eight = eight_values(c0, c1, six);
     let mut samples = [0.0f32; 16];
     for i in 0..16usize {
         let at = list.get(i) as usize;
         samples[i] = eight[at];
     }
     *out = samples;
+}
+
+// The floats of two levels, both by one conversion: that of a single number keeps the rest of its register, and so waits for what the block before it
+// left there.
+fn ends(l0: u8, l1: u8, snorm: bool) -> [f32; 2]
+    ensures { λ r. ⌜ r ≡ levelValue snorm l0 ∷ levelValue snorm l1 ∷ [] ⌝ }
+{
+    let levels = [l0, l1];
+    let mut floats = [0.0f32; 2];
+    for i in 0..2usize {
+        floats[i] = values::level_value(levels[i], snorm);
+    }
+    floats
 }
 
 // Sixteen samples into the caller's array. The format is told apart here, so that each gets straight code.
@@ -61,13 +75,11 @@ pub fn decode_into(block: u64, snorm: bool, out: &mut [f32; 16])
     let c1 = ((block >> 8) % 256) as u8;
     let list = IndexList { data: block >> 16 };
     if snorm {
-        let x = values::value(c0, true);
-        let y = values::value(c1, true);
-        pick(list, x, y, is_six(c0, c1, true), out);
+        let e = ends(values::s8::norm(c0), values::s8::norm(c1), true);
+        look_up(list, eight_values(e[0], e[1], is_six(c0, c1, true)), out);
     } else {
-        let x = values::value(c0, false);
-        let y = values::value(c1, false);
-        pick(list, x, y, is_six(c0, c1, false), out);
+        let e = ends(c0, c1, false);
+        look_up(list, eight_values(e[0], e[1], is_six(c0, c1, false)), out);
     }
 }
 

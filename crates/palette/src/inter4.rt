@@ -2,10 +2,12 @@
 ghost use mathlib.Core.Path.{_≡_};
 ghost use mathlib.Core.Bool.{cond};
 ghost use Prim.Native.Nat.{_≤_, _<_};
-ghost use Rattle.palette.specs.Palettes.{entry, colors as colorsOf, values4};
+ghost use Rattle.palette.specs.Palettes.{entry, colors as colorsOf, withDefaults};
+ghost use Rattle.palette.specs.PaletteError.{errorOver};
 ghost use Rattle.palette.specs.Closest.{defaultOf, nearerOf, nearestTo, closest4, blockClosest};
 use crate::Closest;
 use crate::Indexed;
+use crate::error;
 use end_points::EndPoints;
 use index_list::IndexList;
 
@@ -72,6 +74,20 @@ impl Inter4Palette {
         Self::new(e.c0_f, e.c1_f)
     }
 
+    // The values that the error function looks at: 0 and 1 first.
+    pub fn values(self) -> [f32; 8]
+        ensures { λ r. ⌜ r ≡ withDefaults (self .colors) ⌝ }
+    {
+        let c = self.colors;
+        [0.0, 1.0, c[0], c[1], c[2], c[3], c[4], c[5]]
+    }
+
+    pub fn block_closest_error_sq(self, b: &[f32; 16]) -> f32
+        ensures { λ r. ⌜ r ≡ errorOver (withDefaults (self .colors)) (now (b .entry)) ⌝ }
+    {
+        error::sum(self.values(), b)
+    }
+
     fn nearest(self, pixel: f32) -> Nearest
         ensures { λ r. ⌜ r ≡ nearestTo (self .colors) pixel 6 ⌝ }
     {
@@ -114,13 +130,4 @@ impl Inter4Palette {
             error: block::sum_of_squares(&e),
         }
     }
-}
-
-// The values that the error function looks at: 0 and 1 first.
-pub fn values(c0: f32, c1: f32) -> [f32; 8]
-    ensures { λ r. ⌜ r ≡ values4 c0 c1 ⌝ }
-{
-    let p = Inter4Palette::new(c0, c1);
-    let c = p.colors;
-    [0.0, 1.0, c[0], c[1], c[2], c[3], c[4], c[5]]
 }

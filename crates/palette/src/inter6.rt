@@ -4,9 +4,11 @@ ghost use Prim.Native.Nat.{_≤_, _<_};
 ghost use lib.ListN.{getD};
 ghost use Rattle.palette.specs.Palettes.{inter6Palette, indexMap, blended as blendedOf, values6};
 ghost use Rattle.palette.specs.Closest.{blend as blendOf, blend7 as blend7Of, closest6, weight, weights, blockClosest};
+ghost use Rattle.palette.specs.PaletteError.{errorOver};
 ghost use Rattle.palette.specs.Rows.{index6, off6, rowCode, rowSum, cutWeight};
 use crate::Closest;
 use crate::Indexed;
+use crate::error;
 use end_points::EndPoints;
 use index_list::IndexList;
 
@@ -22,23 +24,6 @@ const F4: f32 = 4.0 / 7.0;
 const F5: f32 = 5.0 / 7.0;
 
 const F6: f32 = 6.0 / 7.0;
-
-// The values that the error function looks at, from c0 to c1.
-pub fn values(c0: f32, c1: f32) -> [f32; 8]
-    ensures { λ r. ⌜ r ≡ values6 c0 c1 ⌝ }
-{
-    let cd = c1 - c0;
-    [
-        c0,
-        c0 + cd * F1,
-        c0 + cd * F2,
-        c0 + cd * F3,
-        c0 + cd * F4,
-        c0 + cd * F5,
-        c0 + cd * F6,
-        c0 + cd * 1.0,
-    ]
-}
 
 // The weight of a blend above -1, by the cut of `closest`.
 pub fn cut_weight(blend: f32) -> f32
@@ -98,6 +83,30 @@ impl Inter6Palette {
         ensures { λ r. ⌜ r ≡ inter6Palette (e .«c0_f») (e .«c1_f») ⌝ }
     {
         Self::new(e.c0_f, e.c1_f)
+    }
+
+    // The values that the error function looks at, from c0 to c1.
+    pub fn values(self) -> [f32; 8]
+        ensures { λ r. ⌜ r ≡ values6 (self .c0) (self .c1) ⌝ }
+    {
+        let c0 = self.c0;
+        let cd = self.c1 - c0;
+        [
+            c0,
+            c0 + cd * F1,
+            c0 + cd * F2,
+            c0 + cd * F3,
+            c0 + cd * F4,
+            c0 + cd * F5,
+            c0 + cd * F6,
+            c0 + cd * 1.0,
+        ]
+    }
+
+    pub fn block_closest_error_sq(self, b: &[f32; 16]) -> f32
+        ensures { λ r. ⌜ r ≡ errorOver (values6 (self .c0) (self .c1)) (now (b .entry)) ⌝ }
+    {
+        error::sum(self.values(), b)
     }
 
     // How many sevenths towards c0, before it is cut to a whole number.

@@ -2,4 +2,5 @@
 #define STDINT_H
 typedef __UINT8_TYPE__ uint8_t;
 typedef __UINT32_TYPE__ uint32_t;
+typedef __UINTMAX_TYPE__ uintmax_t;
 #endif

@@ -1,7 +1,7 @@
 use mathlib.Core.Path.{refl}
 use Rattle.palette.specs.Palettes.{values6}
-use Rattle.palette.proofs.inter6.values.Statement.{statement}
-use Rattle.palette.proofs.inter6.values.Tie as tie
+use Rattle.palette.proofs.inter6.Inter6Palette.values.Statement.{statement}
+use Rattle.palette.proofs.inter6.Inter6Palette.values.Tie as tie
 
 returns : tie.Need-returns
 unfolding values6

@@ -1,7 +1,7 @@
 use Rattle.palette.specs.Palettes.{colors, values4}
 use borrow.Author.Needs.{needs}
-use Rattle.palette.proofs.inter4.values.Statement.{statement}
-use Rattle.palette.proofs.inter4.values.Tie as tie
+use Rattle.palette.proofs.inter4.Inter4Palette.values.Statement.{statement}
+use Rattle.palette.proofs.inter4.Inter4Palette.values.Tie as tie
 
 new-requires : tie.Need-new-requires
 new-requires c κs = search needs
