@@ -90,7 +90,8 @@ impl Inter6Palette {
         ensures { λ r. ⌜ r ≡ values6 (self .c0) (self .c1) ⌝ }
     {
         let c0 = self.c0;
-        let cd = self.c1 - c0;
+        let c1 = self.c1;
+        let cd = c1 - c0;
         [
             c0,
             c0 + cd * F1,
