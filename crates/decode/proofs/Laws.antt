@@ -1,6 +1,6 @@
 -- The sum of a block error by one pixel more, a decoded sample by its pixel, and the sizes of bytes and indexes. Assumes nothing.
 use mathlib.Core.Path.{_≡_, sym, ap, _∙_}
-use mathlib.Core.List.{List}
+use mathlib.Core.List.{List, [], _∷_}
 use mathlib.Core.Bool.{Bool}
 use Prim.Native.Nat.{ℕ, _+_, _*_, _/_, _%_, _^_, _<_}
 use native.Mathlib.Nat.{div-one}
@@ -14,7 +14,8 @@ use Rattle.index_list.specs.Layout.{byteAt, bytesOf, fromBytes}
 use Rattle.index_list.proofs.Laws.{bits-low, from-bytesOf}
 use Rattle.block.specs.Samples.{pixelAt, perPixel}
 use Rattle.block.proofs.Fill.{length-tabulate, getD-tabulate}
-use Rattle.values.specs.Values.{valueOf}
+use Rattle.values.specs.Values.{levelOf, levelValue}
+use Rattle.palette.specs.Palettes.{entry}
 use Rattle.decode.specs.Meaning.{isSix, eightOf, tableOf, blockIndex, picked, sampleAt, decoded}
 use Rattle.decode.specs.BlockError.{sampleError, errorTo, blockError}
 
@@ -26,13 +27,14 @@ pub decoded-at : (snorm : Bool) (n i : ℕ) → i < 16 → pixelAt (decoded snor
 unfolding decoded
 decoded-at snorm n i h = getD-tabulate (sampleAt snorm n) nan 16 i h
 
--- What the floats of a block's two bytes pick are its samples.
-pub picked-decoded : (snorm : Bool) (n : ℕ) (x y : Float) (six : Bool) → x ≡ valueOf snorm (n % 256) → y ≡ valueOf snorm (n / 2 ^ 8 % 256)
-    → six ≡ isSix snorm (n % 256) (n / 2 ^ 8 % 256) → perPixel (picked (eightOf six x y) (n / 2 ^ 16)) ≡ decoded snorm n
+-- What is picked of the eight values of a block's two levels, as floats, are its samples.
+pub picked-decoded : (snorm : Bool) (n l0 l1 : ℕ) (e eight : List Float) (six : Bool) → l0 ≡ levelOf snorm (n % 256) → l1 ≡ levelOf snorm (n / 2 ^ 8 % 256)
+    → e ≡ levelValue snorm l0 ∷ levelValue snorm l1 ∷ [] → six ≡ isSix snorm (n % 256) (n / 2 ^ 8 % 256) → eight ≡ eightOf six (entry e 0) (entry e 1)
+    → perPixel (picked eight (n / 2 ^ 16)) ≡ decoded snorm n
 unfolding decoded tableOf
-picked-decoded snorm n x y six ex ey es =
-    let e : eightOf six x y ≡ tableOf snorm (byteAt n 0) (byteAt n 1) = rw (es, ex, ey, div-one) in
-    ap (λ (eight : List Float). perPixel (picked eight (n / 2 ^ 16))) e
+picked-decoded snorm n l0 l1 e eight six e0 e1 ee es e8 =
+    let same : eight ≡ tableOf snorm (byteAt n 0) (byteAt n 1) = rw (e8, es, ee, e0, e1, div-one) in
+    ap (λ (v : List Float). perPixel (picked v (n / 2 ^ 16))) same
 
 pub byte-lt : (n j : ℕ) → byteAt n j < 256
 byte-lt n j = omega arith

@@ -56,7 +56,7 @@ fn look_up(list: IndexList, eight: [f32; 8], out: &mut [f32; 16])
 
 // The floats of two levels, both by one conversion: that of a single number keeps the rest of its register, and so waits for what the block before it
 // left there.
-fn ends(l0: u8, l1: u8, snorm: bool) -> [f32; 2]
+fn end_values(l0: u8, l1: u8, snorm: bool) -> [f32; 2]
     ensures { λ r. ⌜ r ≡ levelValue snorm l0 ∷ levelValue snorm l1 ∷ [] ⌝ }
 {
     let levels = [l0, l1];
@@ -75,10 +75,10 @@ pub fn decode_into(block: u64, snorm: bool, out: &mut [f32; 16])
     let c1 = ((block >> 8) % 256) as u8;
     let list = IndexList { data: block >> 16 };
     if snorm {
-        let e = ends(values::s8::norm(c0), values::s8::norm(c1), true);
+        let e = end_values(values::s8::norm(c0), values::s8::norm(c1), true);
         look_up(list, eight_values(e[0], e[1], is_six(c0, c1, true)), out);
     } else {
-        let e = ends(c0, c1, false);
+        let e = end_values(c0, c1, false);
         look_up(list, eight_values(e[0], e[1], is_six(c0, c1, false)), out);
     }
 }

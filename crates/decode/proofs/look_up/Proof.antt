@@ -5,18 +5,15 @@ use lib.Ieee.{nan}
 use borrow.Author.Needs.{needs}
 use Rattle.palette.specs.Palettes.{entry}
 use Rattle.block.proofs.Fill.{Filled, fill-start, fill-step, fill-end}
-use Rattle.decode.specs.Meaning.{eightOf, picked}
-use Rattle.decode.proofs.pick.Statement.{statement}
-use Rattle.decode.proofs.pick.Tie as tie
+use Rattle.decode.specs.Meaning.{picked}
+use Rattle.decode.proofs.look_up.Statement.{statement}
+use Rattle.decode.proofs.look_up.Tie as tie
 
 abbrev Inv-loop : tie.InvT-loop
-Inv-loop list c0 c1 six out eight samples₀ i₀ samples i = (i ≤ 16) × Filled nan (picked (eightOf six c0 c1) (list .data)) 16 samples i
+Inv-loop list out eight samples₀ i₀ samples i = (i ≤ 16) × Filled nan (picked eight (list .data)) 16 samples i
 
 abbrev μ-loop : tie.MeasureT-loop
-μ-loop list c0 c1 six out eight samples₀ i₀ samples i = 16 - i
-
-eight-values-requires : tie.Need-eight-values-requires Inv-loop μ-loop
-eight-values-requires c κs = search needs
+μ-loop list out eight samples₀ i₀ samples i = 16 - i
 
 loop-holds : tie.Need-loop-holds Inv-loop μ-loop
 loop-holds c = (search needs, fill-start nan _ 16 _ refl)
@@ -48,25 +45,24 @@ loop-less c = search needs
 loop-again : tie.Need-loop-again Inv-loop μ-loop
 loop-again c =
     let h = c .before .before in
-    let a = h .before .before .args in
-    let f = picked (eightOf (a .six) (a .c0) (a .c1)) (a .list .data) in
-    let v = entry (h .before .eight-values .result) (c .get .result) in
-    let e : v ≡ f (h .loop .i) = rw (c .get .ensures, h .before .eight-values .ensures) in
+    let a = h .before .args in
+    let f = picked (a .t2) (a .list .data) in
+    let v = entry (a .t2) (c .get .result) in
+    let e : v ≡ f (h .loop .i) = rw (c .get .ensures) in
     (search needs, fill-step nan f 16 (h .loop .samples) (h .loop .i) v (h .loop .inv .1) (c .before .loop-test .taken) e)
 
 returns : tie.Need-returns Inv-loop μ-loop
 returns c =
     let h = c .before in
-    let a = h .before .before .args in
-    fill-end nan (picked (eightOf (a .six) (a .c0) (a .c1)) (a .list .data)) 16 (h .loop .samples) (h .loop .i) (h .loop .inv .1) (omega arith)
+    let a = h .before .args in
+    fill-end nan (picked (a .t2) (a .list .data)) 16 (h .loop .samples) (h .loop .i) (h .loop .inv .1) (omega arith)
 
-pub pick-spec : {M : Type 1} → statement M
-pick-spec =
+pub look-up-spec : {M : Type 1} → statement M
+look-up-spec =
     tie.close
     (tie.spec
     Inv-loop
     μ-loop
-    eight-values-requires
     loop-holds
     get-requires
     cast-at
