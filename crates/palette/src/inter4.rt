@@ -3,11 +3,9 @@ ghost use mathlib.Core.Path.{_≡_};
 ghost use mathlib.Core.Bool.{cond};
 ghost use Prim.Native.Nat.{_≤_, _<_};
 ghost use Rattle.palette.specs.Palettes.{entry, colors as colorsOf, withDefaults};
-ghost use Rattle.palette.specs.PaletteError.{errorOver};
 ghost use Rattle.palette.specs.Closest.{defaultOf, nearerOf, nearestTo, closest4, blockClosest};
 use crate::Closest;
 use crate::Indexed;
-use crate::error;
 use end_points::EndPoints;
 use index_list::IndexList;
 
@@ -74,18 +72,12 @@ impl Inter4Palette {
         Self::new(e.c0_f, e.c1_f)
     }
 
-    // The values that the error function looks at: 0 and 1 first.
-    pub fn values(self) -> [f32; 8]
+    // block_closest_error_sq, the part that is this palette's own: the values that it looks at, 0 and 1 first.
+    pub fn error_values(self) -> [f32; 8]
         ensures { λ r. ⌜ r ≡ withDefaults (self .colors) ⌝ }
     {
         let c = self.colors;
         [0.0, 1.0, c[0], c[1], c[2], c[3], c[4], c[5]]
-    }
-
-    pub fn block_closest_error_sq(self, b: &[f32; 16]) -> f32
-        ensures { λ r. ⌜ r ≡ errorOver (withDefaults (self .colors)) (now (b .entry)) ⌝ }
-    {
-        error::sum(self.values(), b)
     }
 
     fn nearest(self, pixel: f32) -> Nearest

@@ -4,11 +4,9 @@ ghost use Prim.Native.Nat.{_≤_, _<_};
 ghost use lib.ListN.{getD};
 ghost use Rattle.palette.specs.Palettes.{inter6Palette, indexMap, blended as blendedOf, values6};
 ghost use Rattle.palette.specs.Closest.{blend as blendOf, blend7 as blend7Of, closest6, weight, weights, blockClosest};
-ghost use Rattle.palette.specs.PaletteError.{errorOver};
 ghost use Rattle.palette.specs.Rows.{index6, off6, rowCode, rowSum, cutWeight};
 use crate::Closest;
 use crate::Indexed;
-use crate::error;
 use end_points::EndPoints;
 use index_list::IndexList;
 
@@ -85,8 +83,8 @@ impl Inter6Palette {
         Self::new(e.c0_f, e.c1_f)
     }
 
-    // The values that the error function looks at, from c0 to c1.
-    pub fn values(self) -> [f32; 8]
+    // block_closest_error_sq, the part that is this palette's own: the values that it looks at, from c0 to c1.
+    pub fn error_values(self) -> [f32; 8]
         ensures { λ r. ⌜ r ≡ values6 (self .c0) (self .c1) ⌝ }
     {
         let c0 = self.c0;
@@ -102,12 +100,6 @@ impl Inter6Palette {
             c0 + cd * F6,
             c0 + cd * 1.0,
         ]
-    }
-
-    pub fn block_closest_error_sq(self, b: &[f32; 16]) -> f32
-        ensures { λ r. ⌜ r ≡ errorOver (values6 (self .c0) (self .c1)) (now (b .entry)) ⌝ }
-    {
-        error::sum(self.values(), b)
     }
 
     // How many sevenths towards c0, before it is cut to a whole number.

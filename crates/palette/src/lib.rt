@@ -66,23 +66,22 @@ fn indexes(k: &[u32; 16]) -> IndexList
     )
 }
 
-// Each palette's own error, of the palette that these two ends make: what the Rust's closure over `P` works out.
-pub fn palette_error(kind: Kind, b: &[f32; 16], c0: f32, c1: f32) -> f32
-    ensures { λ r. ⌜ r ≡ paletteError kind (now (b .entry)) c0 c1 ⌝ }
-{
-    match kind {
-        Kind::Six => Inter6Palette::new(c0, c1).block_closest_error_sq(b),
-        Kind::Four => Inter4Palette::new(c0, c1).block_closest_error_sq(b),
-    }
-}
-
+// The palette that these two ends make, as what its error looks at.
 fn values(kind: Kind, c0: f32, c1: f32) -> [f32; 8]
     ensures { λ r. ⌜ r ≡ valuesOf kind c0 c1 ⌝ }
 {
     match kind {
-        Kind::Six => Inter6Palette::new(c0, c1).values(),
-        Kind::Four => Inter4Palette::new(c0, c1).values(),
+        Kind::Six => Inter6Palette::new(c0, c1).error_values(),
+        Kind::Four => Inter4Palette::new(c0, c1).error_values(),
     }
+}
+
+// block_closest_error_sq of that palette, what the Rust's closure over `P` works out. The sum stands behind the choice of the palette: with one in each
+// branch the compiler no longer lays the eight values out four at a time.
+pub fn palette_error(kind: Kind, b: &[f32; 16], c0: f32, c1: f32) -> f32
+    ensures { λ r. ⌜ r ≡ paletteError kind (now (b .entry)) c0 c1 ⌝ }
+{
+    error::sum(values(kind, c0, c1), b)
 }
 
 // A floor of it.
