@@ -73,7 +73,7 @@ count-is (Refused q) width height n e = absurd (apart (ap ofTiled e))
 pub demand-2 : Demand2
 unfolding samplesAfter outAfter
 demand-2 = record {
-  encoded = answered;
+  encoded = λ s o long real. answered s o (accepted s long real);
   near = λ snorm encoded before i h. decoded-close snorm (fromBytes encoded) i h;
   tiled = λ s width height o out n e column row h k.
       let counted = count-is (lowest (tileChecks s width height (length out))) width height n e in

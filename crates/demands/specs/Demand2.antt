@@ -1,11 +1,11 @@
 -- Demand 2: what encode block answers, that each block of a tile is the block call on its own sixteen samples, and how near a decoded sample is to
 -- the exact fraction. That `compressed` is the Rust's function is what its definition, read beside the Rust, and the comparison say.
 use mathlib.Core.Path.{_≡_}
-use mathlib.Core.Bool.{Bool}
+use mathlib.Core.Bool.{Bool, false}
 use mathlib.Core.List.{List}
 use Prim.Native.Nat.{ℕ, _<_}
 use lib.ListN.{length, take, drop}
-use lib.Ieee.{Float}
+use lib.Ieee.{Float, isNan}
 use Rattle.index_list.specs.Layout.{byteAt, bytesOf, fromBytes}
 use Rattle.block.specs.Samples.{pixelAt}
 use Rattle.refine.specs.declared.options.Options.{Options}
@@ -16,11 +16,12 @@ use Rattle.place.specs.Place.{along, blockAt, blockOf}
 use Rattle.refusal.specs.declared.Checked.the-variants.{Passed}
 use Rattle.bc4.specs.declared.Encoded.the-variants.{Block}
 use Rattle.bc4.specs.declared.Tiled.the-variants.{Written}
-use Rattle.refusal.specs.Refusals.{lowest, encodeChecks}
 use Rattle.bc4.specs.Calls.{encodeAnswer, samplesAfter, tileAnswer, outAfter}
 
 pub record Demand2 : Type 0 where
-  pub encoded : (samples : List Float) (o : Options) → lowest (encodeChecks samples) ≡ Passed → encodeAnswer samples o ≡ Block (compressed samples o)
+  -- of sixteen samples, none of them NaN
+  pub encoded : (samples : List Float) (o : Options) → length samples ≡ 16 → ((i : ℕ) → i < 16 → isNan (pixelAt samples i) ≡ false)
+      → encodeAnswer samples o ≡ Block (compressed samples o)
   -- pixel i of eight bytes, in the array that decode was lent
   pub near : (snorm : Bool) (encoded : List ℕ) (before : List Float) (i : ℕ) → i < 16
       → let n = fromBytes encoded in
