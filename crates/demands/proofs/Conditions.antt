@@ -2,7 +2,7 @@
 use mathlib.Core.Path.{_≡_, refl, sym, ap, _∙_, subst}
 use mathlib.Core.Bool.{Bool, true, false, not, cond, _||_}
 use mathlib.Core.Logic.{_⊎_, inl, inr}
-use mathlib.Core.List.{List, [], _∷_}
+use mathlib.Core.List.{List, [], _∷_, _++_}
 use Prim.Native.Nat.{ℕ, zero, suc, _%_, _<_, _≤_}
 use native.Mathlib.Nat.{le-of-suc-le-suc}
 use native.Mathlib.Omega.{arith}
@@ -16,7 +16,8 @@ use Rattle.place.specs.Place.{longestSide, badSide, badSize, along, noBlock}
 use Rattle.refusal.specs.declared.Refusal.{Refusal}
 use Rattle.refusal.specs.declared.Refusal.the-variants.{SampleIsNan}
 use Rattle.refusal.specs.Refusals.{Check, firstNan}
-use Rattle.demands.specs.Demand1.{BadSide, Missing, LowestNan, WhenNan, Iff}
+use Rattle.bc4.specs.Word.{wordOf}
+use Rattle.demands.specs.Demand1.{BadSide, Missing, BadWord, LowestNan, WhenNan, Iff}
 use Rattle.demands.proofs.Refusing.{Has}
 
 -- ---- from one check to a list of them
@@ -45,8 +46,33 @@ when-iff f = (λ x. (x .0, f .0 (x .1)), λ x. (x .0, f .1 (x .1)))
 pub iff-refl : {A : Type 0} → Iff A A
 iff-refl = (λ x. x, λ x. x)
 
-iff-trans : {A B C : Type 0} → Iff A B → Iff B C → Iff A C
+iff-sym : {A B : Type 0} → Iff A B → Iff B A
+iff-sym f = (f .1, f .0)
+
+pub iff-trans : {A B C : Type 0} → Iff A B → Iff B C → Iff A C
 iff-trans f g = (λ x. g .0 (f .0 x), λ z. f .1 (g .1 z))
+
+either-way : {A B : Type 0} → A ⊎ B → B ⊎ A
+either-way (inl x) = inr x
+either-way (inr y) = inl y
+
+or-assoc : {A B C : Type 0} → Iff ((A ⊎ B) ⊎ C) (A ⊎ B ⊎ C)
+or-assoc {A} {B} {C} = (there, back)
+  where
+    there : (A ⊎ B) ⊎ C → A ⊎ B ⊎ C
+    there (inl (inl x)) = inl x
+    there (inl (inr y)) = inr (inl y)
+    there (inr z) = inr (inr z)
+
+    back : A ⊎ B ⊎ C → (A ⊎ B) ⊎ C
+    back (inl x) = inl (inl x)
+    back (inr (inl y)) = inl (inr y)
+    back (inr (inr z)) = inr z
+
+-- one check more, after all others
+pub has-last : (cs : List Check) (c : Check) (q : Refusal) → Iff (Has (cs ++ c ∷ []) q) (Has cs q ⊎ ((q ≡ c .refusal) × (c .applies ≡ true)))
+has-last [] c q = (either-way, either-way)
+has-last (d ∷ cs) c q = iff-trans (next-iff iff-refl (has-last cs c q)) (iff-sym or-assoc)
 
 -- ---- tests
 or-iff : (a b : Bool) → Iff (a || b ≡ true) ((a ≡ true) ⊎ (b ≡ true))
@@ -67,17 +93,7 @@ side-iff : (n : ℕ) → Iff (badSide n ≡ true) (BadSide n)
 unfolding badSide
 side-iff n =
     iff-trans (or-iff (eqb n 0 || ltb longestSide n) (not (eqb (n % 4) 0)))
-    (iff-trans (next-iff (iff-trans (or-iff (eqb n 0) (ltb longestSide n)) (next-iff (eqb-true n 0, eq-eqb n 0) (below-iff longestSide n))) (unequal-iff (n % 4) 0)) (there, back))
-  where
-    there : ((n ≡ 0) ⊎ (1024 < n)) ⊎ (n % 4 ≡ 0 → ⊥) → BadSide n
-    there (inl (inl x)) = inl x
-    there (inl (inr x)) = inr (inl x)
-    there (inr x) = inr (inr x)
-
-    back : BadSide n → ((n ≡ 0) ⊎ (1024 < n)) ⊎ (n % 4 ≡ 0 → ⊥)
-    back (inl x) = inl (inl x)
-    back (inr (inl x)) = inl (inr x)
-    back (inr (inr x)) = inr x
+    (iff-trans (next-iff (iff-trans (or-iff (eqb n 0) (ltb longestSide n)) (next-iff (eqb-true n 0, eq-eqb n 0) (below-iff longestSide n))) (unequal-iff (n % 4) 0)) or-assoc)
 
 pub size-iff : (width height : ℕ) → Iff (badSize width height ≡ true) (BadSide width ⊎ BadSide height)
 unfolding badSize
@@ -87,6 +103,10 @@ pub place-iff : (width height column row : ℕ) → Iff (noBlock width height co
 place-iff width height column row =
     iff-trans (or-iff (leb (along width) column) (leb (along height) row))
     (next-iff (leb-true (along width) column, le-leb (along width) column) (leb-true (along height) row, le-leb (along height) row))
+
+pub word-iff : (flags limit quality last : ℕ) → Iff (wordOf flags limit quality last .malformed ≡ true) (BadWord quality last)
+unfolding wordOf
+word-iff flags limit quality last = iff-trans (or-iff (ltb 2 quality) (not (eqb last 0))) (next-iff (below-iff 2 quality) (unequal-iff last 0))
 
 -- ---- the lowest index of a NaN
 lowest-nan : (s : List Float) → firstNan s < length s → LowestNan s (firstNan s)

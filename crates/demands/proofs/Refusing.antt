@@ -3,9 +3,11 @@ use mathlib.Core.Path.{_≡_, refl, sym, ap, _∙_, subst}
 use mathlib.Core.Bool.{Bool, true, false, cond}
 use mathlib.Core.Logic.{_⊎_, inl, inr}
 use mathlib.Core.List.{List, [], _∷_}
-use Prim.Native.Nat.{ℕ, _<_, _≤_}
+use Prim.Native.Nat.{ℕ, _<_}
 use native.Mathlib.Omega.{arith}
+use lib.Dec.{T, ltb, lit<}
 use Rattle.floats.proofs.Tests.{clash}
+use Rattle.floats.proofs.Table.{both, both-left, both-right}
 use Rattle.refusal.specs.declared.Refusal.{Refusal}
 use Rattle.refusal.specs.declared.Checked.{Checked}
 use Rattle.refusal.specs.declared.Checked.the-variants.{Passed, Refused}
@@ -18,19 +20,25 @@ abbrev pub Has : List Check → Refusal → Type 0
 Has [] q = ⊥
 Has (c ∷ cs) q = ((q ≡ c .refusal) × (c .applies ≡ true)) ⊎ Has cs q
 
--- all numbers are above n
-abbrev pub Above : ℕ → List Check → Type 0
-Above n [] = Unit {0}
-Above n (c ∷ cs) = (n < numberOf (c .refusal)) × Above n cs
+-- the numbers ascend, from above n
+abbrev pub ascends : ℕ → List Check → Bool
+ascends n [] = true
+ascends n (c ∷ cs) = both (ltb n (numberOf (c .refusal))) (ascends (numberOf (c .refusal)) cs)
 
-abbrev pub Ascending : List Check → Type 0
-Ascending [] = Unit {0}
-Ascending (c ∷ cs) = Above (numberOf (c .refusal)) cs × Ascending cs
+module _ (n : ℕ) (c : Check) (cs : List Check) (a : T (ascends n (c ∷ cs))) where
+  first-above : n < numberOf (c .refusal)
+  first-above = lit< (both-left (ltb n (numberOf (c .refusal))) (ascends (numberOf (c .refusal)) cs) a)
 
-above : (n : ℕ) (cs : List Check) (q : Refusal) → Above n cs → Has cs q → n < numberOf q
+  rest-ascends : T (ascends (numberOf (c .refusal)) cs)
+  rest-ascends = both-right (ltb n (numberOf (c .refusal))) (ascends (numberOf (c .refusal)) cs) a
+
+above : (n : ℕ) (cs : List Check) (q : Refusal) → T (ascends n cs) → Has cs q → n < numberOf q
 above n [] q a h = absurd h
-above n (c ∷ cs) q a (inl h) = subst (λ (p : Refusal). n < numberOf p) (sym (h .0)) (a .0)
-above n (c ∷ cs) q a (inr h) = above n cs q (a .1) h
+above n (c ∷ cs) q a (inl h) = subst (λ (p : Refusal). n < numberOf p) (sym (h .0)) (first-above n c cs a)
+above n (c ∷ cs) q a (inr h) =
+    let later = above (numberOf (c .refusal)) cs q (rest-ascends n c cs a) h in
+    let here = first-above n c cs a in
+    omega arith
 
 abbrev refusalOr : Refusal → Checked → Refusal
 refusalOr q Passed = q
@@ -39,10 +47,10 @@ refusalOr q (Refused p) = p
 abbrev First : List Check → Refusal → Type 0
 First cs q = Has cs q × ((p : Refusal) → Has cs p → numberOf p < numberOf q → ⊥)
 
-given : (cs : List Check) (q : Refusal) → Ascending cs → lowest cs ≡ Refused q → First cs q
+given : (n : ℕ) (cs : List Check) (q : Refusal) → T (ascends n cs) → lowest cs ≡ Refused q → First cs q
 unfolding lowest
-given [] q a e = absurd (apart (sym e))
-given (c ∷ cs) q a e = go (c .applies) refl e (given cs q (a .1))
+given n [] q a e = absurd (apart (sym e))
+given n (c ∷ cs) q a e = go (c .applies) refl e (given (numberOf (c .refusal)) cs q (rest-ascends n c cs a))
   where
     go : (t : Bool) → c .applies ≡ t → cond t (Refused (c .refusal)) (lowest cs) ≡ Refused q → (lowest cs ≡ Refused q → First cs q) → First (c ∷ cs) q
     go true t e rest =
@@ -50,21 +58,21 @@ given (c ∷ cs) q a e = go (c .applies) refl e (given cs q (a .1))
           inl (sym same, t),
           λ p h l. elim h [
             | inl x ↦ let w : numberOf p ≡ numberOf q = ap numberOf (x .0 ∙ same) in omega arith
-            | inr x ↦ let w : numberOf (c .refusal) ≡ numberOf q = ap numberOf same in let u = above (numberOf (c .refusal)) cs p (a .0) x in omega arith
+            | inr x ↦ let w : numberOf (c .refusal) ≡ numberOf q = ap numberOf same in let u = above (numberOf (c .refusal)) cs p (rest-ascends n c cs a) x in omega arith
           ],
         )
     go false t e rest =
         let r = rest e in
         (inr (r .0), λ p h l. elim h [ inl x ↦ clash (x .1) t | inr x ↦ r .1 p x l ])
 
-taken : (cs : List Check) (q : Refusal) → Ascending cs → First cs q → lowest cs ≡ Refused q
+taken : (n : ℕ) (cs : List Check) (q : Refusal) → T (ascends n cs) → First cs q → lowest cs ≡ Refused q
 unfolding lowest
-taken [] q a f = absurd (f .0)
-taken (c ∷ cs) q a f = go (c .applies) refl (f .0) (taken cs q (a .1))
+taken n [] q a f = absurd (f .0)
+taken n (c ∷ cs) q a f = go (c .applies) refl (f .0) (taken (numberOf (c .refusal)) cs q (rest-ascends n c cs a))
   where
     go : (t : Bool) → c .applies ≡ t → Has (c ∷ cs) q → (First cs q → lowest cs ≡ Refused q) → cond t (Refused (c .refusal)) (lowest cs) ≡ Refused q
     go true t (inl x) rest = ap Refused (sym (x .0))
-    go true t (inr x) rest = absurd (f .1 (c .refusal) (inl (refl, t)) (above (numberOf (c .refusal)) cs q (a .0) x))
+    go true t (inr x) rest = absurd (f .1 (c .refusal) (inl (refl, t)) (above (numberOf (c .refusal)) cs q (rest-ascends n c cs a) x))
     go false t (inl x) rest = absurd (clash (x .1) t)
     go false t (inr x) rest = rest (x, λ p h l. f .1 p (inr h) l)
 
@@ -88,11 +96,11 @@ clear (c ∷ cs) f = go (c .applies) refl (clear cs (λ q h. f q (inr h)))
     go false t rest = rest
 
 -- The law, over conditions that say the same as the checks.
-pub exactly : (cs : List Check) (R : Refusal → Type 0) → Ascending cs → ((q : Refusal) → Iff (Has cs q) (R q)) → Exactly (lowest cs) R
+pub exactly : (cs : List Check) (R : Refusal → Type 0) → T (ascends 0 cs) → ((q : Refusal) → Iff (Has cs q) (R q)) → Exactly (lowest cs) R
 exactly cs R a same = record {
   refused = λ q. (
-    λ e. let f = given cs q a e in (same q .0 (f .0), λ p r l. f .1 p (same p .1 r) l),
-    λ f. taken cs q a (same q .1 (f .0), λ p h l. f .1 p (same p .0 h) l),
+    λ e. let f = given 0 cs q a e in (same q .0 (f .0), λ p r l. f .1 p (same p .1 r) l),
+    λ f. taken 0 cs q a (same q .1 (f .0), λ p h l. f .1 p (same p .0 h) l),
   );
   passed = (λ e q r. none cs e q (same q .1 r), λ f. clear cs (λ q h. f q (same q .0 h)));
 }

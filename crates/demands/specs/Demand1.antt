@@ -16,8 +16,7 @@ use Rattle.refusal.specs.declared.Checked.{Checked}
 use Rattle.refusal.specs.declared.Checked.the-variants.{Passed, Refused}
 use Rattle.bc4.specs.declared.Tiled.the-variants.{Refused as NotTiled}
 use Rattle.refusal.specs.Refusals.{numberOf, lowest, decodeChecks, viewChecks}
-use Rattle.bc4.specs.declared.word.Word.{Word}
-use Rattle.bc4.specs.Word.{encodeByWord}
+use Rattle.bc4.specs.Word.{wordOf, encodeByWord, resendByWord, tileByWord}
 use Rattle.bc4.specs.Calls.{ofEncoded, ofScored, ofResent, ofTiled, encodeAnswer, samplesAfter, errorAnswer, resendAnswer, tileAnswer, outAfter, viewOf}
 
 -- ---- the table's conditions
@@ -34,6 +33,10 @@ pub record LowestNan (samples : List Float) (i : ℕ) : Type 0 where
   pub within : i < length samples
   pub there : isNan (pixelAt samples i) ≡ true
   pub none-lower : (j : ℕ) → j < i → isNan (pixelAt samples j) ≡ false
+
+-- 8, quality and last being bytes 2 and 3 of the word
+abbrev pub BadWord : ℕ → ℕ → Type 0
+BadWord quality last = (2 < quality) ⊎ (last ≡ 0 → ⊥)
 
 -- q is this refusal, and the condition holds
 abbrev pub When : Refusal → Refusal → Type 0 → Type 0
@@ -80,9 +83,9 @@ ViewRefuses tile width height column row q =
     ⊎ WhenUnequal q EncodedLength (length tile) (width * height / 2)
     ⊎ When q NoSuchBlock (Missing width height column row)
 
--- of the program's record: 2, 7, 8
-abbrev pub RecordRefuses : List Float → Word → Refusal → Type 0
-RecordRefuses samples w q = WhenUnequal q SampleCount (length samples) 16 ⊎ WhenNan q samples ⊎ When q WordMalformed (w .malformed ≡ true)
+-- with a word for the options: what the call refuses, and 8
+abbrev pub OrBadWord : (Refusal → Type 0) → ℕ → ℕ → Refusal → Type 0
+OrBadWord Refuses quality last q = Refuses q ⊎ When q WordMalformed (BadWord quality last)
 
 -- ---- exactly when
 abbrev pub Iff : Type 0 → Type 0 → Type 0
@@ -102,8 +105,16 @@ pub record Demand1 : Type 0 where
       → Exactly (ofTiled (tileAnswer samples width height (length out))) (TileRefuses samples width height out)
   pub view : (tile : List ℕ) (width height column row : ℕ)
       → Exactly (lowest (viewChecks (length tile) width height column row)) (ViewRefuses tile width height column row)
-  pub record-of : (samples : List Float) (w : Word) → Exactly (ofEncoded (encodeByWord samples w)) (RecordRefuses samples w)
-  -- a refused call leaves lent memory as it was, and a refused view is empty
+  -- the calls that take a word, for every four bytes; the program has the first of them
+  pub encode-word : (samples : List Float) (flags limit quality last : ℕ)
+      → Exactly (ofEncoded (encodeByWord samples (wordOf flags limit quality last))) (OrBadWord (EncodeRefuses samples) quality last)
+  pub resend-word : (samples : List Float) (held : List ℕ) (flags limit quality last : ℕ)
+      → let w = wordOf flags limit quality last in
+      Exactly (ofResent (resendByWord samples held w)) (OrBadWord (ResendRefuses samples held (w .options)) quality last)
+  pub tile-word : (samples : List Float) (width height : ℕ) (out : List ℕ) (flags limit quality last : ℕ)
+      → Exactly (ofTiled (tileByWord samples width height (length out) (wordOf flags limit quality last)))
+      (OrBadWord (TileRefuses samples width height out) quality last)
+  -- a refused call leaves lent memory as it was, a tile call by word too (`outAfter` of the word's options), and a refused view is empty
   pub decode-leaves : (q : Refusal) (snorm : Bool) (encoded : List ℕ) (before : List Float) → samplesAfter (Refused q) snorm encoded before ≡ before
   pub tile-leaves : (q : Refusal) (samples : List Float) (width height : ℕ) (o : Options) (before : List ℕ)
       → outAfter (NotTiled q) samples width height o before ≡ before
