@@ -17,6 +17,10 @@ use Rattle.bc4.proofs.view_refusal.Kinds as view-refusal-kinds
 use Rattle.bc4.proofs.view_refusal.Reads as view-refusal
 use Rattle.bc4.proofs.bytes.Kinds as bytes-kinds
 use Rattle.bc4.proofs.bytes.Reads as bytes
+use Rattle.refusal.proofs.number.Kinds as number-kinds
+use Rattle.refusal.proofs.number.Reads as number
+use Rattle.bc4.proofs.word.read.Kinds as word-read-kinds
+use Rattle.bc4.proofs.word.read.Reads as word-read
 use Rattle.bc4.proofs.word.encode_block.Kinds as word-encode-block-kinds
 use Rattle.bc4.proofs.word.encode_block.Reads as word-encode-block
 use Rattle.bc4.proofs.word.resend.Kinds as word-resend-kinds
@@ -53,6 +57,9 @@ refusal-determined κs a x y s t p q = p ∙ sym q
 pub bytes-determined : One-answer 0 bytes-kinds.ps bytes-kinds.r bytes.Post
 bytes-determined κs a x y s t p q = p ∙ sym q
 
+pub number-determined : One-answer 0 number-kinds.ps number-kinds.r number.Post
+number-determined κs a x y s t p q = p ∙ sym q
+
 -- decode: the answer, and the sixteen samples
 pub decode-determined : One-answer 2 decode-block-kinds.ps decode-block-kinds.r decode-block.Post
 decode-determined κs a x y s t p q = p .0 ∙ sym (q .0)
@@ -68,7 +75,10 @@ pub tile-bytes-determined : One-end 2 encode-tile-kinds.ps encode-tile-kinds.r e
 tile-bytes-determined κs a x y s t p q =
     p .1 ∙ ap (λ z. outAfter z (a .0 .now) (a .1 .0) (a .1 .1 .0) (a .1 .1 .1 .0) (a .1 .1 .1 .1 .0 .now)) (p .0 ∙ sym (q .0)) ∙ sym (q .1)
 
--- the same with a word for the options
+-- a word, and the same calls with one for the options
+pub word-read-determined : One-answer 0 word-read-kinds.ps word-read-kinds.r word-read.Post
+word-read-determined κs a x y s t p q = p ∙ sym q
+
 pub word-encode-determined : One-answer 1 word-encode-block-kinds.ps word-encode-block-kinds.r word-encode-block.Post
 word-encode-determined κs a x y s t p q = p ∙ sym q
 
