@@ -1,15 +1,12 @@
 -- Demand 3. Assumes nothing.
-use mathlib.Core.Path.{_≡_, refl, sym, ap, _∙_, subst}
-use mathlib.Core.Logic.{_⊎_, inl, inr}
+use mathlib.Core.Path.{_≡_, refl, sym, subst}
 use mathlib.Core.Bool.{Bool, true, false, cond}
-use mathlib.Core.List.{List, [], _∷_, _++_}
+use mathlib.Core.List.{List}
 use Prim.Native.Nat.{ℕ}
 use lib.Ieee.{Float, lt}
 use Rattle.floats.specs.declared.Pair.{Pair}
 use Rattle.floats.specs.Bounds.{Within}
-use Rattle.floats.proofs.Order.{lt-trans}
 use Rattle.floats.proofs.Bounds.{unit-within}
-use Rattle.index_list.specs.Layout.{bytesOf, fromBytes}
 use Rattle.block.specs.Block.{entered}
 use Rattle.block.proofs.Laws.{entered-unit}
 use Rattle.values.proofs.Levels.{levelValue-unit}
@@ -28,19 +25,12 @@ use Rattle.refine.proofs.Limits.{refined-limits}
 use Rattle.refine.proofs.Rounding.{medium-no-larger, high-no-larger}
 use Rattle.compress.specs.Inter6.{compressedFrom, compressInter6}
 use Rattle.compress.specs.Inter4.{compressInter4}
-use Rattle.encode.specs.Encoder.{searches, compressed}
 use Rattle.search.specs.Covered.{Covered, pairError, Written}
 use Rattle.search.proofs.Covered.{search-written, search-none-smaller, search-finite}
 use Rattle.encode.proofs.Searched.{compressed-searched}
-use Rattle.decode.specs.BlockError.{blockError}
-use Rattle.decode.proofs.Laws.{error-of-bytes}
 use Rattle.decode.proofs.Finite.{blockError-within}
-use Rattle.refusal.specs.declared.Checked.{Checked}
-use Rattle.refusal.specs.declared.Checked.the-variants.{Passed, Refused}
-use Rattle.refusal.specs.Refusals.{lowest, resendChecks}
-use Rattle.bc4.specs.Calls.{betterOf, resentOn, resendAnswer}
-use Rattle.bc4.proofs.Resends.{stays-or-replaced}
-use Rattle.demands.specs.Demand3.{errorOf, endsUnder, Limits, NoLarger, heldAfter, series, AllIn, StaysOrBetter, Demand3}
+use Rattle.demands.specs.Demand3.{errorOf, Limits, Demand3}
+use Rattle.demands.proofs.Series.{flag-right, later}
 
 -- ---- limits
 limits : (kind : Kind) (b : List Float) (o : Options) (start : Pair) → Limits kind b o start
@@ -88,39 +78,6 @@ module _ (kind : Kind) (b : List Float) where
 finite : (kind : Kind) (s : List Float) (p : Pair) → Levelled p → Within 256 (errorOf kind (entered s) p)
 finite kind s p l = error-within kind (entered s) (p .0) (p .1) (l .first) (l .second) (entered-unit s)
 
--- ---- resends
-one-resend : (s : List Float) (held : List ℕ) (o : Options) → StaysOrBetter (o .snorm) s held (heldAfter held (resendAnswer s held o))
-unfolding resentOn
-one-resend s held o = go (lowest (resendChecks s held o))
-  where
-    go : (c : Checked) → StaysOrBetter (o .snorm) s held (heldAfter held (resentOn c s held o))
-    go (Refused q) = inl refl
-    go Passed =
-        elim (stays-or-replaced s (fromBytes held) o) [
-          | inl x ↦ inl (rw (x .1))
-          | inr y ↦ inr (rw (y .1, error-of-bytes (o .snorm) s (betterOf s (fromBytes held) o .block)) (y .2))
-        ]
-
-stays-trans : (snorm : Bool) (s : List Float) (l m n : List ℕ) → StaysOrBetter snorm s l m → StaysOrBetter snorm s m n → StaysOrBetter snorm s l n
-stays-trans snorm s l m n (inl p) q = subst (λ (x : List ℕ). StaysOrBetter snorm s x n) p q
-stays-trans snorm s l m n (inr p) (inl q) = inr (subst (λ (x : List ℕ). lt (blockError snorm s (fromBytes x)) (blockError snorm s (fromBytes l)) ≡ true) (sym q) p)
-stays-trans snorm s l m n (inr p) (inr q) = inr (lt-trans (blockError snorm s (fromBytes n)) (blockError snorm s (fromBytes m)) (blockError snorm s (fromBytes l)) q p)
-
-whole-series : (s : List Float) (snorm : Bool) (held : List ℕ) (ps : List Options) → AllIn snorm ps → StaysOrBetter snorm s held (series s held ps)
-unfolding series
-whole-series s snorm held [] a = inl refl
-whole-series s snorm held (o ∷ ps) a =
-    let next = heldAfter held (resendAnswer s held o) in
-    stays-trans snorm s held next (series s next ps) (subst (λ (f : Bool). StaysOrBetter f s held next) (a .0) (one-resend s held o)) (whole-series s snorm next ps (a .1))
-
-series-after : (s : List Float) (held : List ℕ) (os ps : List Options) → series s held (os ++ ps) ≡ series s (series s held os) ps
-unfolding series
-series-after s held [] ps = refl
-series-after s held (o ∷ os) ps = series-after s (heldAfter held (resendAnswer s held o)) os ps
-
-later : (s : List Float) (snorm : Bool) (held : List ℕ) (os ps : List Options) → AllIn snorm os → AllIn snorm ps → StaysOrBetter snorm s (series s held os) (series s held (os ++ ps))
-later s snorm held os ps a b = rw (series-after s held os ps) (whole-series s snorm (series s held os) ps b)
-
 pub demand-3 : Demand3
 unfolding compressInter6 compressedFrom compressInter4 refinedEnds
 demand-3 = record {
@@ -140,6 +97,7 @@ demand-3 = record {
     no-larger = high-no-larger kind (entered s) snorm p;
   };
   resends = later;
+  flagged = flag-right;
   errors-finite = λ s snorm n. blockError-within snorm s n;
   search-written = λ s o e. subst (Written (entered s)) (sym (compressed-searched s o e)) (search-written (entered s) (entered-unit s));
   search-none-smaller = λ s o e.

@@ -4,5 +4,6 @@ pub mod Refusing
 pub mod Conditions
 pub mod Demand1
 pub mod Demand2
+pub mod Series
 pub mod Demand3
 pub mod EncoderSteps

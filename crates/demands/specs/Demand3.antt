@@ -5,6 +5,7 @@ use mathlib.Core.Logic.{_⊎_}
 use mathlib.Core.Bool.{Bool, true, false, cond}
 use mathlib.Core.List.{List, [], _∷_, _++_}
 use Prim.Native.Nat.{ℕ, _≤_, _<_}
+use lib.ListN.{length, getD}
 use lib.Ieee.{Float, lt}
 use Rattle.floats.specs.declared.Pair.{Pair}
 use Rattle.floats.specs.Bounds.{Within}
@@ -24,9 +25,11 @@ use Rattle.compress.specs.Inter4.{firstEnds, compressInter4}
 use Rattle.encode.specs.Encoder.{searches, compressed}
 use Rattle.search.specs.Covered.{Covered, pairError, Written}
 use Rattle.decode.specs.BlockError.{blockError}
+use Rattle.bc4.specs.declared.Held.{Held}
 use Rattle.bc4.specs.declared.Resent.{Resent}
 use Rattle.bc4.specs.declared.Resent.the-variants.{Block as Answered, Refused as NotResent}
 use Rattle.bc4.specs.Calls.{resendAnswer}
+use Rattle.demands.specs.Demand1.{Iff}
 
 abbrev pub errorOf : Kind → List Float → Pair → Float
 errorOf kind b p = paletteError kind b (p .0) (p .1)
@@ -58,10 +61,14 @@ pub record NoLarger (kind : Kind) (b : List Float) (p q : Pair) : Type 0 where
   pub picked : Within 256 (errorOf kind b q)
   pub no-larger : lt (errorOf kind b p) (errorOf kind b q) ≡ false
 
--- ---- resends: the bytes that the station holds. A refused resend brings none.
+-- ---- resends: the station holds the bytes that the answer hands back, whatever the flag says. A refused resend brings none.
 abbrev pub heldAfter : List ℕ → Resent → List ℕ
-heldAfter held (Answered h) = cond (h .fresh) (bytesOf (h .block)) held
+heldAfter held (Answered h) = bytesOf (h .block)
 heldAfter held (NotResent q) = held
+
+-- every element is a byte
+abbrev pub AllBytes : List ℕ → Type 0
+AllBytes bs = (i : ℕ) → i < length bs → getD bs i 0 < 256
 
 unfoldable pub series : List Float → List ℕ → List Options → List ℕ
 series samples held [] = held
@@ -94,9 +101,12 @@ pub record Demand3 : Type 0 where
       → NoLarger kind (entered s) (quantizedPair snorm p) (quantizing MediumQuality kind (entered s) snorm p)
   pub high : (kind : Kind) (s : List Float) (snorm : Bool) (p : Pair)
       → NoLarger kind (entered s) (quantizedPair snorm p) (quantizing HighQuality kind (entered s) snorm p)
-  -- from any point of a series of resends to any later one
-  pub resends : (s : List Float) (snorm : Bool) (held : List ℕ) (os ps : List Options) → AllIn snorm os → AllIn snorm ps
+  -- from any point of a series of resends to any later one, whatever bytes are held first
+  pub resends : (s : List Float) (snorm : Bool) (held : List ℕ) → AllBytes held → (os ps : List Options) → AllIn snorm os → AllIn snorm ps
       → StaysOrBetter snorm s (series s held os) (series s held (os ++ ps))
+  -- the flag is set exactly when the bytes handed back are not the held ones
+  pub flagged : (s : List Float) (held : List ℕ) → AllBytes held → (o : Options) (h : Held) → resendAnswer s held o ≡ Answered h
+      → Iff (h .fresh ≡ true) (bytesOf (h .block) ≡ held → ⊥)
   pub errors-finite : (s : List Float) (snorm : Bool) (n : ℕ) → Within 64 (blockError snorm s n)
   -- where the exhaustive search applies: a covered pair is written, in one of the modes,
   pub search-written : (s : List Float) (o : Options) → searches o ≡ true → Written (entered s) (compressed s o)
