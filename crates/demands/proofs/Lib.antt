@@ -7,3 +7,4 @@ pub mod Demand2
 pub mod Series
 pub mod Demand3
 pub mod EncoderSteps
+pub mod Literals

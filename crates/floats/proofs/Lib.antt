@@ -19,4 +19,3 @@ pub mod Bounds
 pub mod Rounding
 pub mod RoundedResult
 pub mod Table
-pub mod Literals

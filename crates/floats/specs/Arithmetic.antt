@@ -1,5 +1,5 @@
 -- f32 as the definitions write it: the four operations, each rounded once to the nearest value and at a tie to the even one,
--- and the code's literals. A literal is given by its bits, as the compiler reads it; `literals` in proofs/ says which number each is.
+-- and the code's literals. A literal is given by its bits, as the compiler reads it; `Literals` of the crate `demands` says which number each is.
 use Prim.Native.Nat.{ℕ}
 use lib.Ieee.{Float, binary32, add, sub, mul, div, ofBits, ofInt}
 use lib.IntN.{pos}

@@ -1,26 +1,18 @@
--- The eight values that the error looks at: the literals in them, each value by its index, and the Rust's start for four values. Assumes nothing.
+-- The eight values that the error looks at: each by its index, and the Rust's start for four values. Assumes nothing.
 use mathlib.Core.Path.{_≡_, refl, ap₂}
 use mathlib.Core.Bool.{true}
 use Prim.Native.Nat.{ℕ, zero, suc, _<_}
 use native.Mathlib.Omega.{arith}
 use lib.Dec.{T}
 use lib.Ieee.{Float, binary32, le, fits, ofBits, ofInt, div}
-use Rattle.floats.specs.Arithmetic.{_⊖_, _⊘_, whole, bits, f1}
+use Rattle.floats.specs.Arithmetic.{_⊖_, _⊘_, whole, f1}
 use Rattle.floats.specs.Helpers.{laneMin}
 use Rattle.floats.proofs.Squares.{Plain}
 use Rattle.floats.proofs.Distances.{distance-0, distance-1}
 use Rattle.palette.specs.declared.Kind.{Kind}
 use Rattle.palette.specs.declared.Kind.the-variants.{Six, Four}
-use Rattle.palette.specs.Palettes.{entry, f7, seventh, fifth1, fifth2, fifth3, fifth4, towards, colors, values6, values4, valuesOf}
+use Rattle.palette.specs.Palettes.{entry, towards, colors, values6, values4, valuesOf}
 use Rattle.palette.specs.PaletteError.{leastTo}
-
--- The number that each literal is: whole numbers, and quotients rounded once.
-pub fractions :
-    (f7 ≡ whole 7) × (seventh ≡ whole 1 ⊘ whole 7) × (bits 0x3e92_4925 ≡ whole 2 ⊘ whole 7) × (bits 0x3edb_6db7 ≡ whole 3 ⊘ whole 7)
-    × (bits 0x3f12_4925 ≡ whole 4 ⊘ whole 7) × (bits 0x3f36_db6e ≡ whole 5 ⊘ whole 7) × (bits 0x3f5b_6db7 ≡ whole 6 ⊘ whole 7)
-    × (fifth1 ≡ whole 1 ⊘ whole 5) × (fifth2 ≡ whole 2 ⊘ whole 5) × (fifth3 ≡ whole 3 ⊘ whole 5) × (fifth4 ≡ whole 4 ⊘ whole 5)
-unfolding ofBits ofInt div
-fractions = (refl, refl, refl, refl, refl, refl, refl, refl, refl, refl, refl)
 
 -- ---- by index
 -- where the error function looks at the value of index k

@@ -12,7 +12,7 @@ use Rattle.palette.specs.declared.Kind.the-variants.{Six, Four}
 abbrev pub entry : List Float → ℕ → Float
 entry v k = getD v k nan
 
--- ---- literals, by their bits: 7, sevenths and fifths, each the quotient rounded once (`fractions` in proofs/)
+-- ---- literals, by their bits: 7, sevenths and fifths, each rounded once (`Literals` of the crate `demands`)
 abbrev pub f7 : Float
 f7 = bits 0x40e0_0000
 
