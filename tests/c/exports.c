@@ -333,6 +333,37 @@ static void block_views(void) {
   EXPECT(view(48, 8, 12, (size_t)-1, (size_t)-1) == BC4_NO_SUCH_BLOCK && untouched());
 }
 
+/* ---- stack: how far down a call writes, seen in a stretch below the stack pointer that was filled before */
+static uint32_t stack_options;
+static void encode_once(void) { encode(16, stack_options); }
+static void score_once(void) { score(16, 8, false); }
+static void resend_once(void) { resend(16, 8, stack_options); }
+static void tile_once(void) { tile(64, 8, 8, stack_options, 32); }
+
+__attribute__((noinline)) static long stack_of(void (*call)(void)) {
+  volatile uint8_t *frame = __builtin_frame_address(0);
+  long below;
+  for (below = 512; below < 32768; below++) frame[-below] = 0xa5;
+  call();
+  for (below = 32767; below > 512 && frame[-below] == 0xa5;) below--;
+  return below;
+}
+
+static void stack(void) {
+  static void (*const calls[])(void) = {encode_once, score_once, resend_once, tile_once};
+  static const uint32_t sets[] = {0, BC4_DITHER, BC4_BRUTE_FORCE, 0xf8u | BC4_MAX_REFINE_ITER(10) | BC4_HIGH_QUALITY};
+  lend_all();
+  lend_samples(0.5f, 64);
+  for (size_t i = 0; i < 64; i++) set_sample(i, (float)(i * 7919 % 1009) / 1009.0f);
+  put(&encoded, zeros, 8);
+  for (size_t k = 0; k < sizeof calls / sizeof *calls; k++)
+    for (size_t j = 0; j < sizeof sets / sizeof *sets; j++) {
+      stack_options = sets[j];
+      stack_of(calls[k]); /* the first call may look memcpy and memset up */
+      EXPECT(stack_of(calls[k]) < 4096);
+    }
+}
+
 /* ---- the list of the Rust's answers: an options word, sixteen samples, eight bytes */
 static void replayed(void) {
   uint8_t entry[76], got[8];
@@ -365,6 +396,7 @@ int main(void) {
   resend_blocks();
   encode_tiles();
   block_views();
+  stack();
   replayed();
   printf("tests/c/exports.c: %ld checks, %ld differ\n", checks, differ);
   return differ != 0;

@@ -8,7 +8,7 @@ use native.Mathlib.Omega.{arith}
 use lib.Ieee.{Float, lt}
 use Rattle.floats.proofs.Tests.{clash}
 use Rattle.floats.proofs.Order.{lt-irrefl, lt-trans}
-use Rattle.index_list.specs.Layout.{bytesOf, fromBytes}
+use Rattle.index_list.specs.Layout.{bytesOf, fromBytes, AllBytes}
 use Rattle.index_list.proofs.ReadBack.{bytes-all, bytes-from}
 use Rattle.refine.specs.declared.options.Options.{Options}
 use Rattle.decode.specs.BlockError.{blockError}
@@ -22,7 +22,7 @@ use Rattle.bc4.specs.declared.Resent.the-variants.{Block as Answered}
 use Rattle.bc4.specs.Calls.{betterOf, resentOn, resendAnswer}
 use Rattle.bc4.proofs.Resends.{stays-or-replaced}
 use Rattle.demands.specs.Demand1.{Iff}
-use Rattle.demands.specs.Demand3.{heldAfter, AllBytes, series, AllIn, StaysOrBetter}
+use Rattle.demands.specs.Demand3.{heldAfter, series, AllIn, StaysOrBetter}
 
 -- where a resend is not refused, what is held are eight bytes: read as a number and laid out again they are the same
 module _ (s : List Float) (held : List ℕ) (all : AllBytes held) (o : Options) where

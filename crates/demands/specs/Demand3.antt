@@ -5,11 +5,10 @@ use mathlib.Core.Logic.{_⊎_}
 use mathlib.Core.Bool.{Bool, true, false, cond}
 use mathlib.Core.List.{List, [], _∷_, _++_}
 use Prim.Native.Nat.{ℕ, _≤_, _<_}
-use lib.ListN.{length, getD}
 use lib.Ieee.{Float, lt}
 use Rattle.floats.specs.declared.Pair.{Pair}
 use Rattle.floats.specs.Bounds.{Within}
-use Rattle.index_list.specs.Layout.{bytesOf, fromBytes}
+use Rattle.index_list.specs.Layout.{bytesOf, fromBytes, AllBytes}
 use Rattle.block.specs.Block.{entered, minMax, minMaxWithThreshold, bc4MinValue}
 use Rattle.palette.specs.declared.Kind.{Kind}
 use Rattle.palette.specs.declared.Kind.the-variants.{Six, Four}
@@ -65,10 +64,6 @@ pub record NoLarger (kind : Kind) (b : List Float) (p q : Pair) : Type 0 where
 abbrev pub heldAfter : List ℕ → Resent → List ℕ
 heldAfter held (Answered h) = bytesOf (h .block)
 heldAfter held (NotResent q) = held
-
--- every element is a byte
-abbrev pub AllBytes : List ℕ → Type 0
-AllBytes bs = (i : ℕ) → i < length bs → getD bs i 0 < 256
 
 unfoldable pub series : List Float → List ℕ → List Options → List ℕ
 series samples held [] = held

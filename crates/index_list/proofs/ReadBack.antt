@@ -6,12 +6,8 @@ use native.Mathlib.Nat.{mod-eq-of-lt}
 use native.Mathlib.Omega.{arith}
 use lib.ListN.{length, getD}
 use lib.Pow.{pow-add}
-use Rattle.index_list.specs.Layout.{bytesOf, fromBytes}
+use Rattle.index_list.specs.Layout.{bytesOf, fromBytes, AllBytes}
 use Rattle.index_list.proofs.Laws.{from-bytesOf}
-
--- every element is a byte
-abbrev pub AllBytes : List ℕ → Type 0
-AllBytes bs = (i : ℕ) → i < length bs → getD bs i 0 < 256
 
 all-rest : (b : ℕ) (bs : List ℕ) → AllBytes (b ∷ bs) → AllBytes bs
 all-rest b bs all i l = all (suc i) (omega arith)

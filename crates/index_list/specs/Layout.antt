@@ -4,7 +4,8 @@
 --   bytes 2..7  the sixteen indexes' 48 bits, little-endian
 -- Inside the encoder the eight bytes go as one number, byte 0 lowest.
 use mathlib.Core.List.{List, [], _∷_}
-use Prim.Native.Nat.{ℕ, _+_, _*_, _/_, _%_, _^_}
+use Prim.Native.Nat.{ℕ, _+_, _*_, _/_, _%_, _^_, _<_}
+use lib.ListN.{length, getD}
 
 -- byte j of a number, counted from the lowest
 abbrev pub byteAt : ℕ → ℕ → ℕ
@@ -22,3 +23,7 @@ bytesOf n = byteAt n 0 ∷ byteAt n 1 ∷ byteAt n 2 ∷ byteAt n 3 ∷ byteAt n
 unfoldable pub fromBytes : List ℕ → ℕ
 fromBytes [] = 0
 fromBytes (b ∷ bs) = b + 2 ^ 8 * fromBytes bs
+
+-- every element is a byte
+abbrev pub AllBytes : List ℕ → Type 0
+AllBytes bs = (i : ℕ) → i < length bs → getD bs i 0 < 256

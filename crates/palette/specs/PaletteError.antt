@@ -31,9 +31,5 @@ leastSquareTo v p (suc k) = nearerSquare (leastSquareTo v p k) (entry v (suc k))
 unfoldable pub miss : List Float → Float → Float
 miss v p = squared (leastTo v p 7)
 
--- of eight values
-abbrev pub errorOver : List Float → List Float → Float
-errorOver eight b = sumInOrder (perPixel (λ i. miss eight (pixelAt b i)))
-
 unfoldable pub paletteError : Kind → List Float → Float → Float → Float
-paletteError kind b c0 c1 = errorOver (valuesOf kind c0 c1) b
+paletteError kind b c0 c1 = sumInOrder (perPixel (λ i. miss (valuesOf kind c0 c1) (pixelAt b i)))

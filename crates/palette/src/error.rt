@@ -1,7 +1,9 @@
 // One error function for both palettes, over their eight values.
 ghost use mathlib.Core.Path.{_≡_};
 ghost use Rattle.floats.specs.Arithmetic.{_⊖_, squared};
-ghost use Rattle.palette.specs.PaletteError.{nearerSquare, miss as missOf, errorOver};
+ghost use Rattle.block.specs.Samples.{pixelAt, perPixel};
+ghost use Rattle.block.specs.Orders.{sumInOrder};
+ghost use Rattle.palette.specs.PaletteError.{nearerSquare, miss as missOf};
 ghost use Rattle.palette.specs.Rows.{firstRowSum};
 
 fn squared_distance(value: f32, pixel: f32) -> f32
@@ -31,7 +33,7 @@ fn miss(eight: [f32; 8], pixel: f32) -> f32
 }
 
 pub fn sum(eight: [f32; 8], b: &[f32; 16]) -> f32
-    ensures { λ r. ⌜ r ≡ errorOver eight (now (b .entry)) ⌝ }
+    ensures { λ r. ⌜ r ≡ sumInOrder (perPixel (λ i. missOf eight (pixelAt (now (b .entry)) i))) ⌝ }
 {
     let mut e = [0.0f32; 16];
     for i in 0..16usize {

@@ -26,10 +26,11 @@ fn fill(buf: &mut [u8]) -> Filled
                 failed: true,
             };
         }
-        if got == 0 {
+        let n = io::count(got, &buf[done..]);
+        if n == 0 {
             break;
         }
-        done += io::count(got, &buf[done..]);
+        done += n;
     }
     Filled {
         count: done,
