@@ -6,4 +6,5 @@ pub mod Demand1
 pub mod Demand2
 pub mod Demand3
 pub mod EncoderSteps
+pub mod Choices
 pub mod RoundTrip

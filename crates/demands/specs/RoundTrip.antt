@@ -10,7 +10,7 @@ use Rattle.floats.specs.Arithmetic.{_⊕_, _⊖_}
 use Rattle.floats.specs.Helpers.{absOf}
 use Rattle.floats.specs.declared.Pair.{Pair}
 use Rattle.index_list.specs.Indexes.{filledTo}
-use Rattle.index_list.specs.Layout.{byteAt, packed}
+use Rattle.index_list.specs.Layout.{byteAt, packed, bytesOf}
 use Rattle.block.specs.Samples.{pixelAt, perPixel}
 use Rattle.block.specs.Block.{entered, minMax}
 use Rattle.end_points.specs.declared.EndPoints.{EndPoints}
@@ -26,6 +26,8 @@ use Rattle.search.specs.Covered.{Covered, endsOf}
 use Rattle.single.specs.Single.{epsilon}
 use Rattle.encode.specs.Encoder.{searches, sixOnly, middle, compressed}
 use Rattle.decode.specs.Meaning.{decoded}
+use Rattle.refusal.specs.Refusals.{lowest, decodeChecks}
+use Rattle.bc4.specs.Calls.{samplesAfter}
 use Rattle.demands.specs.Demand3.{sixStart, fiveStart, fourStart, roundedEnds}
 
 -- ---- what a palette answers for a sample: the closest of its values, and the index of that
@@ -38,7 +40,7 @@ abbrev pub meant : Kind → EndPoints → Closest → Float
 meant Six e a = cond (eqb (a .index) 0) (e .«c0_f») (a .value)
 meant Four e a = a .value
 
--- the sample that the palette is asked for pixel i: the block's, with dither the errors of the pixels before added
+-- the sample that a palette is asked about for pixel i: the block's, with dither the errors of the pixels before added
 abbrev pub asked : (Float → Closest) → List Float → Bool → ℕ → Float
 asked rule b dither i = cond dither (pixelAt b i ⊕ pixelAt (ditherTo rule b i .map) i) (pixelAt b i)
 
@@ -59,6 +61,7 @@ unfoldable pub byLevel : EndPoints → Choice
 byLevel e = record { ends = e; index = λ i. 0; value = λ i. e .«c0_f» }
 
 -- ---- the choices that the encoder has for a block, as it has entered
+-- the endpoints of a pair of floats, in a mode
 abbrev pub endsIn : Kind → Bool → Pair → EndPoints
 endsIn Six snorm p = inter6 snorm (p .0) (p .1)
 endsIn Four snorm p = inter4 snorm (p .0) (p .1)
@@ -66,18 +69,18 @@ endsIn Four snorm p = inter4 snorm (p .0) (p .1)
 abbrev pub twice : Float → Pair
 twice v = record { 0 = v; 1 = v }
 
--- all samples are nearly the same: the middle of them stands for each
+-- all samples are nearly the same, and the middle of the smallest and the largest stands for each
 abbrev pub flat : List Float → Bool
 flat b = lt (minMax b .1 ⊖ minMax b .0) epsilon
 
 abbrev pub flatValue : List Float → Float
 flatValue b = middle (minMax b)
 
--- and a level is near enough to that
+-- a level is near enough to that
 abbrev pub isLevel : Bool → Float → Bool
 isLevel snorm v = lt (absOf (closest snorm v .«c0_f» ⊖ v)) epsilon
 
--- where a refinement starts: six values from two pairs, four from one
+-- where the refinements start: of six values, of five of them, and of four
 pub data Start (b : List Float) (o : Options) : Kind → Pair → Type 0 where
   six : Start b o Six (sixStart b)
   five : o .«size_variations» ≡ true → Start b o Six (fiveStart b)
@@ -105,6 +108,9 @@ pub record Chosen (b : List Float) (o : Options) (n : ℕ) : Type 0 where
 
 pub record RoundTrip : Type 0 where
   pub chosen : (s : List Float) (o : Options) → Chosen (entered s) o (compressed s o)
-  -- bytes 0 and 1 of a signed answer are not -128
-  pub c0-written : (s : List Float) (o : Options) → o .snorm ≡ true → byteAt (compressed s o) 0 ≡ 128 → ⊥
-  pub c1-written : (s : List Float) (o : Options) → o .snorm ≡ true → byteAt (compressed s o) 1 ≡ 128 → ⊥
+  -- decode accepts the eight bytes of an answer, and what it leaves in the lent array is that block
+  pub read : (s : List Float) (o : Options) (before : List Float)
+      → let encoded = bytesOf (compressed s o) in
+      samplesAfter (lowest (decodeChecks encoded)) (o .snorm) encoded before ≡ decoded (o .snorm) (compressed s o)
+  -- neither endpoint byte of a signed answer is -128
+  pub never-128 : (s : List Float) (o : Options) → o .snorm ≡ true → (byteAt (compressed s o) 0 ≡ 128 → ⊥) × (byteAt (compressed s o) 1 ≡ 128 → ⊥)

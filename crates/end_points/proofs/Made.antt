@@ -1,10 +1,11 @@
 -- Endpoints as the encoder makes them: two bytes, and Sound. Assumes nothing.
-use mathlib.Core.Path.{_≡_}
-use mathlib.Core.Bool.{Bool, true}
+use mathlib.Core.Path.{_≡_, refl}
+use mathlib.Core.Bool.{Bool, true, false}
 use Prim.Native.Nat.{ℕ, _<_}
 use native.Mathlib.Omega.{arith}
 use lib.Ieee.{Float, le}
 use Rattle.floats.specs.Arithmetic.{f1}
+use Rattle.floats.proofs.Tests.{clash}
 use Rattle.values.proofs.Levels.{levelByte-lt}
 use Rattle.end_points.specs.declared.EndPoints.{EndPoints}
 use Rattle.end_points.specs.Levels.{nearest, levelsOf}
@@ -31,6 +32,15 @@ module _ (snorm : Bool) (e0 e1 : Float) where
   pub inter4-made : Made snorm (inter4 snorm e0 e1)
   unfolding inter4 exchanged
   inter4-made = record { c0-lt = inter6-lt .1; c1-lt = inter6-lt .0; sound = inter4-sound snorm e0 e1 }
+
+-- any two bytes, unsigned
+pub bytes-made : (c0 c1 : ℕ) → c0 < 256 → c1 < 256 → Made false (ofBytes false c0 c1)
+unfolding ofBytes
+bytes-made c0 c1 h k = record {
+  c0-lt = h;
+  c1-lt = k;
+  sound = record { c0-written = λ e. clash e refl; c1-written = λ e. clash e refl; c0-float = refl; c1-float = refl };
+}
 
 -- of a value up to 1
 pub closest-made : (snorm : Bool) (value : Float) → le value f1 ≡ true → Made snorm (closest snorm value)
