@@ -56,10 +56,10 @@ module _ (rule : Float → Closest) (b : List Float) where
     pub total-is : total ≡ ditherTo rule b i .total
 
   -- the indexes are set in order, so the next one is unset
-  abbrev answered : ℕ → ℕ
+  abbrev pub answered : ℕ → ℕ
   answered k = rule (pixelAt b k ⊕ pixelAt (ditherTo rule b k .map) k) .index
 
-  indexes-filled : (n : ℕ) → ditherTo rule b n .indexes ≡ filledTo answered n
+  pub indexes-filled : (n : ℕ) → ditherTo rule b n .indexes ≡ filledTo answered n
   unfolding ditherTo ditherStep filledTo
   indexes-filled zero = refl
   indexes-filled (suc n) = rw (indexes-filled n)

@@ -8,3 +8,5 @@ pub mod Series
 pub mod Demand3
 pub mod EncoderSteps
 pub mod Literals
+pub mod Choices
+pub mod RoundTrip

@@ -4,3 +4,4 @@ pub mod Demand3
 pub mod EncoderSteps
 pub mod WorkedValues
 pub mod Literals
+pub mod RoundTrip

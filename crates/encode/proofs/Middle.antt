@@ -1,6 +1,7 @@
--- The middle of two values in 0..1 is in 0..1. Assumes nothing.
+-- The middle of two values in 0..1 is in 0..1, and so is that of a block as it has entered. Assumes nothing.
 use mathlib.Core.Path.{_≡_, refl}
 use mathlib.Core.Bool.{true}
+use mathlib.Core.List.{List}
 use lib.Dec.{T}
 use lib.Ieee.{Float, nan, inf, fin, binary32, le, ofBits, add, mul}
 use lib.Ieee.Scale.{finite}
@@ -9,6 +10,9 @@ use Rattle.floats.specs.Arithmetic.{_⊕_, _⊗_, f0, f1, half}
 use Rattle.floats.proofs.Order.{le-trans}
 use Rattle.floats.proofs.Monotone.{mul-mono, add-mono, add-comm}
 use Rattle.floats.proofs.Bounds.{unit-within}
+use Rattle.block.specs.Block.{smallest, largest, minMax, InUnit}
+use Rattle.block.proofs.Extremes.{smallest-sample, largest-sample}
+use Rattle.encode.specs.Encoder.{middle}
 
 finite-within : (x : Float) → Within 1 x → T (finite x)
 finite-within nan w = absurd w
@@ -31,3 +35,10 @@ module _ (a b : Float) (a0 : le f0 a ≡ true) (a1 : le a f1 ≡ true) (b0 : le 
 
   pub middle-to-1 : le (half ⊗ (a ⊕ b)) f1 ≡ true
   middle-to-1 = rw (← ends .1) (halved (a ⊕ b) (f1 ⊕ f1) (add-both a b f1 f1 (finite-within b (unit-within b b0 b1)) (unfold ofBits in tt) a1 b1))
+
+pub block-middle-to-1 : (b : List Float) → InUnit b → le (middle (minMax b)) f1 ≡ true
+unfolding minMax
+block-middle-to-1 b u =
+    middle-to-1 (smallest b) (largest b)
+    (smallest-sample b (λ x. le f0 x ≡ true) (u .from-0)) (smallest-sample b (λ x. le x f1 ≡ true) (u .to-1))
+    (largest-sample b (λ x. le f0 x ≡ true) (u .from-0)) (largest-sample b (λ x. le x f1 ≡ true) (u .to-1))

@@ -1,3 +1,4 @@
 pub mod Rounded
 pub mod Ordered
 pub mod Modes
+pub mod Made

@@ -1,14 +1,29 @@
--- Eight bytes, read as one number and laid out again, are the same bytes. Assumes nothing.
+-- What was laid out is what is read: of a block its two endpoints and the index of each pixel; of eight bytes, as one number, the same bytes. Assumes
+-- nothing.
 use mathlib.Core.Path.{_≡_, refl, sym, _∙_}
 use mathlib.Core.List.{List, [], _∷_}
-use Prim.Native.Nat.{ℕ, zero, suc, _+_, _*_, _^_, _<_}
+use Prim.Native.Nat.{ℕ, zero, suc, _+_, _*_, _/_, _%_, _^_, _<_}
 use native.Mathlib.Nat.{mod-eq-of-lt}
 use native.Mathlib.Omega.{arith}
 use lib.ListN.{length, getD}
 use lib.Pow.{pow-add}
-use Rattle.index_list.specs.Layout.{bytesOf, fromBytes, AllBytes}
-use Rattle.index_list.proofs.Laws.{from-bytesOf}
+use Rattle.index_list.specs.Indexes.{indexAt, filledTo}
+use Rattle.index_list.specs.Layout.{byteAt, packed, bytesOf, fromBytes, AllBytes}
+use Rattle.index_list.proofs.Laws.{filled-get, bits-low, from-bytesOf}
 
+-- ---- a block
+pub packed-ends : (c0 c1 d : ℕ) → c0 < 256 → c1 < 256 → (byteAt (packed c0 c1 d) 0 ≡ c0) × (byteAt (packed c0 c1 d) 1 ≡ c1)
+packed-ends c0 c1 d h k = (omega arith, omega arith)
+
+packed-list : (c0 c1 d : ℕ) → c0 < 256 → c1 < 256 → packed c0 c1 d / 2 ^ 16 ≡ d % 2 ^ 48
+packed-list c0 c1 d h k = omega arith
+
+pub packed-index : (c0 c1 : ℕ) (f : ℕ → ℕ) → c0 < 256 → c1 < 256 → ((k : ℕ) → k < 16 → f k < 8) → (i : ℕ) → i < 16
+    → indexAt (packed c0 c1 (filledTo f 16) / 2 ^ 16) i ≡ f i
+packed-index c0 c1 f h0 h1 small i h =
+    rw (packed-list c0 c1 (filledTo f 16) h0 h1) (bits-low (filledTo f 16) (3 * i) 3 48 (omega arith) ∙ filled-get f 16 small i h)
+
+-- ---- eight bytes
 all-rest : (b : ℕ) (bs : List ℕ) → AllBytes (b ∷ bs) → AllBytes bs
 all-rest b bs all i l = all (suc i) (omega arith)
 

@@ -3,3 +3,4 @@ pub mod EightValues
 pub mod Finite
 pub mod ErrorFloor
 pub mod ClosestLaws
+pub mod NoSevenths

@@ -14,7 +14,8 @@ use Rattle.floats.proofs.Tests.{clash}
 use Rattle.floats.proofs.Casts.{byteOf-mono, byteOf-le}
 use Rattle.floats.proofs.Bounds.{below-inf}
 use Rattle.floats.proofs.Monotone.{mul-mono, add-mono}
-use Rattle.index_list.specs.Layout.{byteAt, packed}
+use Rattle.index_list.specs.Layout.{byteAt}
+use Rattle.index_list.proofs.ReadBack.{packed-ends}
 use Rattle.end_points.specs.EndPoints.{ofBytes}
 use Rattle.block.specs.Block.{InUnit, smallest, largest, minMax}
 use Rattle.block.proofs.Extremes.{largest-sample}
@@ -93,9 +94,6 @@ module _ (b : List Float) (u : InUnit b) where
           rw (pair-is b h min max) (kept-one (λ k. (k ≡ start) ⊎ Found k) _ (candidate b Four min max) six (inr (one Four)))
 
 -- ---- the first two bytes of a block are the pair's, in the order of its mode, so they say which pair and which mode it is
-packed-ends : (c0 c1 d : ℕ) → c0 < 256 → c1 < 256 → (byteAt (packed c0 c1 d) 0 ≡ c0) × (byteAt (packed c0 c1 d) 1 ≡ c1)
-packed-ends c0 c1 d h k = (omega arith, omega arith)
-
 module _ (b : List Float) where
   pair-ends : (kind : Kind) (min max : ℕ) → Covered b min max
       → (byteAt (pairBytes kind b min max) 0 ≡ endsOf kind min max .c0) × (byteAt (pairBytes kind b min max) 1 ≡ endsOf kind min max .c1)

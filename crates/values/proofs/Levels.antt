@@ -69,5 +69,9 @@ pub level-le : (snorm : Bool) (b : ℕ) → b < 256 → levelOf snorm b ≤ step
 level-le true b h = omega arith
 level-le false b h = omega arith
 
+pub levelByte-lt : (snorm : Bool) (n : ℕ) → n ≤ steps snorm → levelByte snorm n < 256
+levelByte-lt true n h = omega arith
+levelByte-lt false n h = omega arith
+
 pub fromNorm-never-128 : (n : ℕ) → n ≤ 254 → fromNorm n ≡ 128 → ⊥
 fromNorm-never-128 n h e = omega arith

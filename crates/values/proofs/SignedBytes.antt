@@ -9,7 +9,7 @@ use lib.Signed.{ltZ}
 use mir.Syntax.{w8}
 use mir.Val.{toZ, SFits}
 use mir.ValLaws.{toZ-pos}
-use borrow.Author.Tests.{lt-ltb, le-ltb}
+use borrow.Author.Tests.{lt-ltb, le-ltb, ltb-true}
 use Rattle.floats.proofs.Tests.{iff}
 use Rattle.values.specs.Values.{steps, fromNorm, levelByte, signedOf, byteBelow}
 
@@ -63,3 +63,11 @@ signed-order b c B C = go (ltb b 128) (half b) (ltb c 128) (half c)
 pub level-order : (snorm : Bool) (m n : ℕ) → m < n → n ≤ steps snorm → byteBelow snorm (levelByte snorm m) (levelByte snorm n) ≡ true
 level-order true m n h k = signed-order (fromNorm m) (fromNorm n) (omega arith) (omega arith) ∙ lt-ltb ((fromNorm m + 128) % 256) ((fromNorm n + 128) % 256) (omega arith)
 level-order false m n h k = lt-ltb m n h
+
+-- of two bytes not each is below the other
+ltb-asym : (a b : ℕ) → ltb a b ≡ true → ltb b a ≡ false
+ltb-asym a b h = le-ltb b a (omega (arith, ltb-true a b h))
+
+pub byteBelow-asym : (snorm : Bool) (b c : ℕ) → b < 256 → c < 256 → byteBelow snorm b c ≡ true → byteBelow snorm c b ≡ false
+byteBelow-asym true b c B C h = signed-order c b C B ∙ ltb-asym ((b + 128) % 256) ((c + 128) % 256) (sym (signed-order b c B C) ∙ h)
+byteBelow-asym false b c B C h = ltb-asym b c h
