@@ -52,7 +52,7 @@ module _ (snorm : Bool) (c0 c1 : ℕ) (H0 : c0 < 256) (H1 : c1 < 256) where
   six-sevenths (suc (suc (suc (suc (suc (suc (suc zero))))))) h = refl
   six-sevenths (suc (suc (suc (suc (suc (suc (suc (suc k)))))))) h = absurd (omega arith)
 
-  -- THE LAW: the value that `closest` of six values answers, and c0 at index 0
+  -- the value that `closest` of six values answers, and c0 at index 0
   pub six-chosen : isSix snorm c0 c1 ≡ true → (v : Float)
       → let k = closest6 (inter6Palette x y) v in
       valueAt snorm c0 c1 (k .index) ≡ cond (eqb (k .index) 0) x (k .value)
