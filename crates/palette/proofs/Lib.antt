@@ -3,3 +3,5 @@ pub mod EightValues
 pub mod Finite
 pub mod ErrorFloor
 pub mod ClosestLaws
+pub mod Outside
+pub mod SampleError
