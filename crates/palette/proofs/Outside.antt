@@ -8,11 +8,9 @@ use lib.Ieee.{Float, binary32, lt, le, neg, sum, round, add, sub, ofBits}
 use Rattle.floats.specs.Arithmetic.{_⊖_, f0, half, f1}
 use Rattle.floats.specs.Helpers.{absOf}
 use Rattle.floats.proofs.Tests.{clash, either}
-use Rattle.floats.proofs.Order.{lt-trans, lt-asym, lt-le-trans, le-of-lt, not-of-le}
+use Rattle.floats.proofs.Order.{lt-trans, lt-le-trans, le-of-lt, not-of-le}
 use Rattle.floats.proofs.Monotone.{sub-anti}
 use Rattle.floats.proofs.Squares.{abs-plain, plain-not-below}
-use Rattle.palette.specs.declared.Closest.{Closest}
-use Rattle.palette.specs.declared.inter4.Nearest.{Nearest}
 use Rattle.palette.specs.Palettes.{entry, colors}
 use Rattle.palette.specs.Closest.{defaultOf, nearerOf, nearestTo, closest4}
 
@@ -39,7 +37,7 @@ above-half x h = le-of-lt half x (lt-trans half f1 x (unfold lt ofBits in refl) 
 
 -- 1 less what is not below 1 is not above 0
 past-1 : (x : Float) → lt f1 x ≡ true → le (f1 ⊖ x) f0 ≡ true
-past-1 x h = rw (same) at (sub-anti binary32 f1 f1 x (unfold ofBits in tt) (le-of-lt f1 x h))
+past-1 x h = rw same at (sub-anti binary32 f1 f1 x (unfold ofBits in tt) (le-of-lt f1 x h))
   where
     same : f1 ⊖ f1 ≡ f0
     same = unfold sub add neg sum round ofBits in refl
