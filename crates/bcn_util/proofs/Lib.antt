@@ -1,1 +1,2 @@
 pub mod DitherLaws
+pub mod TargetLaws

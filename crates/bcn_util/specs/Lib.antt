@@ -1,3 +1,4 @@
 pub mod LeastSquares
 pub mod Diffusion
 pub mod Dither
+pub mod Targets

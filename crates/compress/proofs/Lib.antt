@@ -2,3 +2,4 @@ pub mod Places
 pub mod AfterEntry
 pub mod Counting
 pub mod SortedSixteen
+pub mod LoopLaws

@@ -30,7 +30,7 @@ abs-neg nan = refl
 abs-neg (inf s) = refl
 abs-neg (fin s m e) = refl
 
-abs-round : (s : Bool) (a c : ℕ) → absOf (round binary32 s a c) ≡ round binary32 false a c
+pub abs-round : (s : Bool) (a c : ℕ) → absOf (round binary32 s a c) ≡ round binary32 false a c
 abs-round false a c = abs-signed (round binary32 false a c) (round-signed binary32 false a c)
 abs-round true a c = rw (round-mirror binary32 a c) (abs-neg (round binary32 false a c) ∙ abs-signed (round binary32 false a c) (round-signed binary32 false a c))
 

@@ -15,6 +15,7 @@ pub mod Exactly
 pub mod Squares
 pub mod NotBelow
 pub mod Distances
+pub mod Differences
 pub mod Bounds
 pub mod Rounding
 pub mod RoundedResult

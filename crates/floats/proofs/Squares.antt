@@ -15,7 +15,7 @@ use lib.Ieee.Order.{round-mono}
 use Rattle.floats.specs.Arithmetic.{_⊕_, squared, f0}
 use Rattle.floats.specs.Helpers.{absOf, laneMin}
 use Rattle.floats.proofs.Tests.{clash, either}
-use Rattle.floats.proofs.Order.{le-left, le-right, le-of-lt, le-of-not, not-of-le, is-nan}
+use Rattle.floats.proofs.Order.{lt-asym, le-left, le-right, le-of-lt, le-of-not, not-of-le, is-nan}
 use Rattle.floats.proofs.Casts.{plain-le}
 use Rattle.floats.proofs.Signs.{SignedBy, round-signed}
 use Rattle.floats.proofs.Monotone.{to-top, round-real}
@@ -114,6 +114,16 @@ le-antisym (fin false m e) (fin false n d) f g p q h k =
     let a : m * up e * down d ≤ n * up d * down e = plain-le (m * up e * down d) (n * up d * down e) (unfold le in h) in
     let b : n * up d * down e ≤ m * up e * down d = plain-le (n * up d * down e) (m * up e * down d) (unfold le in k) in
     fraction-unique m e n d f g (le-antisymm a b)
+
+-- so the smaller of two is the same from either side
+pub laneMin-comm : (x y : Float) → T (fits binary32 x) → T (fits binary32 y) → Plain x → Plain y → isNan x ≡ false → isNan y ≡ false → laneMin x y ≡ laneMin y x
+laneMin-comm x y f g p q n m = go (lt x y) refl (lt y x) refl
+  where
+    go : (t : Bool) → lt x y ≡ t → (u : Bool) → lt y x ≡ u → cond t x y ≡ cond u y x
+    go true h true k = clash k (lt-asym x y h)
+    go true h false k = refl
+    go false h true k = refl
+    go false h false k = le-antisym y x g f q p (le-of-not y x m n h) (le-of-not x y n m k)
 
 -- ---- THE LAW: the square of the smaller is the smaller square
 nan-square : (x : Float) → isNan x ≡ true → squared x ≡ nan

@@ -4,3 +4,5 @@ pub mod Finite
 pub mod ErrorFloor
 pub mod ClosestLaws
 pub mod NoSevenths
+pub mod Outside
+pub mod SampleError

@@ -1,7 +1,7 @@
 -- The two palettes of a pair of ends. bc4.rs, `Inter6Palette` and `Inter4Palette`; document 01, "Eight bytes".
 use mathlib.Core.List.{List, [], _∷_}
 use Prim.Native.Nat.{ℕ}
-use lib.ListN.{getD}
+use lib.ListN.{getD, take}
 use lib.Ieee.{Float, nan}
 use Rattle.floats.specs.Arithmetic.{_⊕_, _⊖_, _⊗_, _⊘_, whole, bits, f0, half, f1}
 use Rattle.palette.specs.declared.inter6.Inter6Palette.{Inter6Palette}
@@ -75,11 +75,8 @@ values6 c0 c1 =
     ∷ towards c0 c1 f1
     ∷ []
 
-abbrev pub withDefaults : List Float → List Float
-withDefaults c = f0 ∷ f1 ∷ entry c 0 ∷ entry c 1 ∷ entry c 2 ∷ entry c 3 ∷ entry c 4 ∷ entry c 5 ∷ []
-
 unfoldable pub values4 : Float → Float → List Float
-values4 c0 c1 = withDefaults (colors c0 c1)
+values4 c0 c1 = f0 ∷ f1 ∷ take 6 (colors c0 c1)
 
 unfoldable pub valuesOf : Kind → Float → Float → List Float
 valuesOf Six c0 c1 = values6 c0 c1

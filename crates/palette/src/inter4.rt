@@ -2,7 +2,7 @@
 ghost use mathlib.Core.Path.{_≡_};
 ghost use mathlib.Core.Bool.{cond};
 ghost use Prim.Native.Nat.{_≤_, _<_};
-ghost use Rattle.palette.specs.Palettes.{entry, colors as colorsOf, withDefaults};
+ghost use Rattle.palette.specs.Palettes.{entry, colors as colorsOf, values4};
 ghost use Rattle.palette.specs.Closest.{defaultOf, nearerOf, nearestTo, closest4, blockClosest};
 use crate::Closest;
 use crate::Indexed;
@@ -72,14 +72,6 @@ impl Inter4Palette {
         Self::new(e.c0_f, e.c1_f)
     }
 
-    // block_closest_error_sq, the part that is this palette's own: the values that it looks at, 0 and 1 first.
-    pub fn error_values(self) -> [f32; 8]
-        ensures { λ r. ⌜ r ≡ withDefaults (self .colors) ⌝ }
-    {
-        let c = self.colors;
-        [0.0, 1.0, c[0], c[1], c[2], c[3], c[4], c[5]]
-    }
-
     fn nearest(self, pixel: f32) -> Nearest
         ensures { λ r. ⌜ r ≡ nearestTo (self .colors) pixel 6 ⌝ }
     {
@@ -122,4 +114,13 @@ impl Inter4Palette {
             error: block::sum_of_squares(&e),
         }
     }
+}
+
+// The values that the error function looks at: 0 and 1 first.
+pub fn values(c0: f32, c1: f32) -> [f32; 8]
+    ensures { λ r. ⌜ r ≡ values4 c0 c1 ⌝ }
+{
+    let p = Inter4Palette::new(c0, c1);
+    let c = p.colors;
+    [0.0, 1.0, c[0], c[1], c[2], c[3], c[4], c[5]]
 }

@@ -72,7 +72,7 @@ fn values(kind: Kind, c0: f32, c1: f32) -> [f32; 8]
 {
     match kind {
         Kind::Six => Inter6Palette::new(c0, c1).error_values(),
-        Kind::Four => Inter4Palette::new(c0, c1).error_values(),
+        Kind::Four => inter4::values(c0, c1),
     }
 }
 

@@ -1,3 +1,4 @@
 pub mod RoundLaws
 pub mod Limits
 pub mod Rounding
+pub mod Listed
