@@ -7,6 +7,7 @@
 //! ```
 //!
 //! Every call answers its value or a [`Refusal`]: of all that apply, the one of the lowest number. No call allocates or has a state.
+//! Calls take the floating-point environment that a program starts with, which is also what Rust asks of every thread.
 //!
 //! ```
 //! let samples = [1.0; 16];

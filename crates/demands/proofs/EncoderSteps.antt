@@ -4,7 +4,6 @@ use Rattle.end_points.proofs.Modes.{inter6-order, inter4-order, inter6-sound, i
 use Rattle.floats.proofs.Differences.{negative-past-1}
 use Rattle.palette.proofs.Outside.{closest4-below, closest4-above}
 use Rattle.palette.proofs.SampleError.{closest4-miss, values-real}
-use Rattle.bcn_util.proofs.DitherLaws.{weights-are}
 use Rattle.bcn_util.proofs.TargetLaws.{diffused-targets}
 use Rattle.refine.proofs.Listed.{round-listed, high-listed}
 use Rattle.compress.proofs.LoopLaws.{walked-is-loop}
@@ -17,7 +16,6 @@ encoder-steps = record {
   four-order = inter4-order;
   six-sound = inter6-sound;
   four-sound = inter4-sound;
-  dither = weights-are;
   targets = λ m i error h. diffused-targets m error i h;
   round-list = round-listed;
   high-list = high-listed;

@@ -4,9 +4,8 @@ use mathlib.Core.Bool.{Bool, true}
 use mathlib.Core.List.{List}
 use Prim.Native.Nat.{ℕ, _<_}
 use lib.Dec.{T}
-use lib.ListN.{getD}
-use lib.Ieee.{Float, nan, binary32, lt, le, fits}
-use Rattle.floats.specs.Arithmetic.{whole, _⊖_, _⊘_, squared, f0, f1}
+use lib.Ieee.{Float, binary32, lt, le, fits}
+use Rattle.floats.specs.Arithmetic.{_⊖_, squared, f0, f1}
 use Rattle.floats.specs.Bounds.{Within}
 use Rattle.floats.specs.declared.Pair.{Pair}
 use Rattle.values.specs.Values.{byteBelow}
@@ -17,7 +16,7 @@ use Rattle.palette.specs.declared.Kind.the-variants.{Four}
 use Rattle.palette.specs.Palettes.{colors, valuesOf}
 use Rattle.palette.specs.PaletteError.{miss}
 use Rattle.palette.specs.Closest.{closest4}
-use Rattle.bcn_util.specs.Diffusion.{sixteenths, weights, diffused}
+use Rattle.bcn_util.specs.Diffusion.{diffused}
 use Rattle.bcn_util.specs.Targets.{served}
 use Rattle.refine.specs.declared.rounds.Held.{Held}
 use Rattle.refine.specs.Rounds.{round}
@@ -35,9 +34,7 @@ pub record EncoderSteps : Type 0 where
   -- no signed byte of theirs is -128, and the floats that go with the bytes are the bytes' own
   pub six-sound : (snorm : Bool) (e0 e1 : Float) → Sound snorm (inter6 snorm e0 e1)
   pub four-sound : (snorm : Bool) (e0 e1 : Float) → Sound snorm (inter4 snorm e0 e1)
-  -- the dither weights are the table's sixteenths
-  pub dither : (k : ℕ) → k < 20 → getD weights k nan ≡ whole (getD sixteenths k 0) ⊘ whole 16
-  -- each pixel's targets and shares are the table's, and a share of 0 is not given at all
+  -- each pixel's targets and shares are the dither table's, and a share of 0 is not given at all
   pub targets : (m : List Float) (i : ℕ) (error : Float) → i < 16 → diffused m i error ≡ served m i error
   -- the candidates of a round and of high rounding are the Rust's own lists of pairs
   pub round-list : (kind : Kind) (b : List Float) (start : Held) (step : Float) → round kind b start step ≡ roundListed kind b start step
