@@ -11,8 +11,9 @@ use Rattle.floats.proofs.Squares.{Plain}
 use Rattle.floats.proofs.Distances.{distance-0, distance-1}
 use Rattle.palette.specs.declared.Kind.{Kind}
 use Rattle.palette.specs.declared.Kind.the-variants.{Six, Four}
-use Rattle.palette.specs.Palettes.{entry, towards, colors, values6, values4, valuesOf}
+use Rattle.palette.specs.Palettes.{entry, inter6Palette, towards, colors, values6, values4, valuesOf}
 use Rattle.palette.specs.PaletteError.{leastTo}
+use Rattle.palette.specs.ByKind.{paletteOf, valuesIn}
 
 -- ---- by index
 -- where the error function looks at the value of index k
@@ -65,3 +66,9 @@ value6-at c0 c1 (suc (suc (suc (suc (suc (suc k)))))) h = absurd (omega arith)
 pub default-distances : (c0 c1 p : Float) → T (fits binary32 p) → Plain p → le p f1 ≡ true → leastTo (valuesOf Four c0 c1) p 1 ≡ laneMin p (f1 ⊖ p)
 unfolding leastTo valuesOf values4
 default-distances c0 c1 p f s h = ap₂ laneMin (distance-0 p f s h) (distance-1 p s h)
+
+-- ---- a palette as one value has its kind's values
+pub values-in : (kind : Kind) (c0 c1 : Float) → valuesIn (paletteOf kind c0 c1) ≡ valuesOf kind c0 c1
+unfolding valuesIn paletteOf valuesOf inter6Palette
+values-in Six c0 c1 = refl
+values-in Four c0 c1 = refl

@@ -2,3 +2,4 @@ pub mod Palettes
 pub mod PaletteError
 pub mod Closest
 pub mod Rows
+pub mod ByKind

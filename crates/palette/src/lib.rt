@@ -3,9 +3,11 @@ ghost use mathlib.Core.Path.{_≡_};
 ghost use Prim.Native.Nat.{ℕ, _+_, _*_, _<_};
 ghost use lib.ListN.{getD};
 ghost use Rattle.index_list.specs.Indexes.{filledTo};
-ghost use Rattle.palette.specs.Palettes.{valuesOf};
-ghost use Rattle.palette.specs.PaletteError.{paletteError};
-ghost use Rattle.palette.specs.Rows.{firstRowError};
+ghost use Rattle.block.specs.Samples.{pixelAt, perPixel};
+ghost use Rattle.block.specs.Orders.{sumInOrder};
+ghost use Rattle.palette.specs.PaletteError.{miss, paletteError};
+ghost use Rattle.palette.specs.Rows.{firstRowSum, firstRowError};
+ghost use Rattle.palette.specs.ByKind.{paletteOf, valuesIn};
 
 pub mod error;
 pub mod inter4;
@@ -66,27 +68,56 @@ fn indexes(k: &[u32; 16]) -> IndexList
     )
 }
 
-// The palette that these two ends make, as what its error looks at.
-fn values(kind: Kind, c0: f32, c1: f32) -> [f32; 8]
-    ensures { λ r. ⌜ r ≡ valuesOf kind c0 c1 ⌝ }
-{
-    match kind {
-        Kind::Six => Inter6Palette::new(c0, c1).error_values(),
-        Kind::Four => inter4::values(c0, c1),
+// The palette that two ends make, by its kind: what implements the Rust's `Palette`. An enum holds no array, so the ends stand for four values.
+pub enum Palette {
+    Inter6(Inter6Palette),
+    Inter4(f32, f32),
+}
+
+impl Palette {
+    pub fn new(kind: Kind, c0: f32, c1: f32) -> Self
+        ensures { λ r. ⌜ r ≡ paletteOf kind c0 c1 ⌝ }
+    {
+        match kind {
+            Kind::Six => Palette::Inter6(Inter6Palette::new(c0, c1)),
+            Kind::Four => Palette::Inter4(c0, c1),
+        }
+    }
+
+    // The eight that the error looks at, in its order.
+    fn values(self) -> [f32; 8]
+        ensures { λ r. ⌜ r ≡ valuesIn self ⌝ }
+    {
+        match self {
+            Palette::Inter6(p) => p.error_values(),
+            Palette::Inter4(c0, c1) => inter4::values(c0, c1),
+        }
+    }
+
+    // The sum stands behind the choice: with one for each palette the compiler no longer lays the eight values out four at a time.
+    pub fn block_closest_error_sq(self, b: &[f32; 16]) -> f32
+        ensures { λ r. ⌜ r ≡ sumInOrder (perPixel (λ i. miss (valuesIn self) (pixelAt (now (b .entry)) i))) ⌝ }
+    {
+        error::sum(self.values(), b)
+    }
+
+    // A floor of it: what the first row adds.
+    fn first_row_error_sq(self, b: &[f32; 16]) -> f32
+        ensures { λ r. ⌜ r ≡ firstRowSum (valuesIn self) (now (b .entry)) ⌝ }
+    {
+        error::first_row_sum(self.values(), b)
     }
 }
 
-// block_closest_error_sq of that palette, what the Rust's closure over `P` works out. The sum stands behind the choice of the palette: with one in each
-// branch the compiler no longer lays the eight values out four at a time.
+// What the Rust's closure over `P` works out for two ends.
 pub fn palette_error(kind: Kind, b: &[f32; 16], c0: f32, c1: f32) -> f32
     ensures { λ r. ⌜ r ≡ paletteError kind (now (b .entry)) c0 c1 ⌝ }
 {
-    error::sum(values(kind, c0, c1), b)
+    Palette::new(kind, c0, c1).block_closest_error_sq(b)
 }
 
-// A floor of it.
 pub fn first_row_error(kind: Kind, b: &[f32; 16], c0: f32, c1: f32) -> f32
     ensures { λ r. ⌜ r ≡ firstRowError kind (now (b .entry)) c0 c1 ⌝ }
 {
-    error::first_row_sum(values(kind, c0, c1), b)
+    Palette::new(kind, c0, c1).first_row_error_sq(b)
 }
