@@ -5,7 +5,7 @@ use mathlib.Core.Bool.{Bool, true, false, cond}
 use Prim.Native.Nat.{ℕ, zero, suc, _+_, _*_, _/_, _%_, _<_}
 use native.Mathlib.Omega.{arith}
 use lib.Ieee.{Float, lt, le, isNan}
-use Rattle.floats.specs.Arithmetic.{f1}
+use Rattle.floats.specs.Arithmetic.{f0, f1}
 use Rattle.floats.specs.Helpers.{laneMin, laneMax}
 use Rattle.floats.proofs.Order.{le-of-lt, le-of-not, le-refl, le-trans, le-left}
 use Rattle.block.specs.Samples.{pixelAt}
@@ -152,3 +152,12 @@ smallest-sample b Q each = over-all laneMin min-picks (pixelAt b) Q each
 pub largest-sample : (b : List Float) (Q : Float → Type 0) → ((i : ℕ) → i < 16 → Q (pixelAt b i)) → Q (largest b)
 unfolding largest
 largest-sample b Q each = over-all laneMax max-picks (pixelAt b) Q each
+
+-- so of samples in 0..1 both are in 0..1
+pub extremes-unit : (b : List Float) → InUnit b → (le f0 (smallest b) ≡ true) × (le (smallest b) f1 ≡ true) × (le f0 (largest b) ≡ true) × (le (largest b) f1 ≡ true)
+extremes-unit b u = (
+  smallest-sample b (λ x. le f0 x ≡ true) (u .from-0),
+  smallest-sample b (λ x. le x f1 ≡ true) (u .to-1),
+  largest-sample b (λ x. le f0 x ≡ true) (u .from-0),
+  largest-sample b (λ x. le x f1 ≡ true) (u .to-1),
+)

@@ -11,7 +11,7 @@ use Rattle.floats.proofs.Order.{le-trans}
 use Rattle.floats.proofs.Monotone.{mul-mono, add-mono, add-comm}
 use Rattle.floats.proofs.Bounds.{unit-within}
 use Rattle.block.specs.Block.{smallest, largest, minMax, InUnit}
-use Rattle.block.proofs.Extremes.{smallest-sample, largest-sample}
+use Rattle.block.proofs.Extremes.{extremes-unit}
 use Rattle.encode.specs.Encoder.{middle}
 
 finite-within : (x : Float) → Within 1 x → T (finite x)
@@ -39,6 +39,5 @@ module _ (a b : Float) (a0 : le f0 a ≡ true) (a1 : le a f1 ≡ true) (b0 : le 
 pub block-middle-to-1 : (b : List Float) → InUnit b → le (middle (minMax b)) f1 ≡ true
 unfolding minMax
 block-middle-to-1 b u =
-    middle-to-1 (smallest b) (largest b)
-    (smallest-sample b (λ x. le f0 x ≡ true) (u .from-0)) (smallest-sample b (λ x. le x f1 ≡ true) (u .to-1))
-    (largest-sample b (λ x. le f0 x ≡ true) (u .from-0)) (largest-sample b (λ x. le x f1 ≡ true) (u .to-1))
+    let e = extremes-unit b u in
+    middle-to-1 (smallest b) (largest b) (e .0) (e .1) (e .2) (e .3)

@@ -5,7 +5,7 @@ use mathlib.Core.List.{List, [], _∷_}
 use Prim.Native.Nat.{ℕ, zero, suc, _+_, _*_, _/_, _%_, _^_, _<_}
 use native.Mathlib.Nat.{mod-eq-of-lt}
 use native.Mathlib.Omega.{arith}
-use lib.ListN.{length, getD}
+use lib.ListN.{length}
 use lib.Pow.{pow-add}
 use Rattle.index_list.specs.Indexes.{indexAt, filledTo}
 use Rattle.index_list.specs.Layout.{byteAt, packed, bytesOf, fromBytes, AllBytes}

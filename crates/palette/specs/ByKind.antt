@@ -1,5 +1,5 @@
--- A palette by its kind as one value, which the code hands to its error: the Rust's `P: Palette`. A law in proofs/ says that its values are those of
--- Palettes; nothing here has to be believed.
+-- A palette by its kind as one value, which the code hands to its error: the Rust's `P: Palette`. `values-in` in proofs/ says that its values are those
+-- of Palettes; nothing here has to be believed.
 use mathlib.Core.List.{List}
 use lib.Ieee.{Float}
 use Rattle.palette.specs.declared.Kind.{Kind}

@@ -1,7 +1,8 @@
 // Document 01, "The program": records of 68 bytes from standard input, a line for each to standard output. What is written for a buffer is
 // `lines::text`; no contract of the system's calls says what is read or written, so nothing but reading and writing is left here.
 ghost use mathlib.Core.Path.{_≡_};
-ghost use Prim.Native.Nat.{_≤_};
+ghost use mathlib.Core.Bool.{cond};
+ghost use Prim.Native.Nat.{_*_, _/_, _≤_};
 ghost use lib.ListN.{length};
 use libc::STDERR_FILENO;
 use libc::STDIN_FILENO;
@@ -40,7 +41,7 @@ fn fill(buf: &mut [u8]) -> Filled
 
 // The bytes to answer. Where a read failed the input has not ended: what is there of a last record is not `short`.
 fn answered(f: Filled) -> usize
-    ensures { λ r. ⌜ r ≤ f .count ⌝ }
+    ensures { λ r. ⌜ (r ≡ cond (f .failed) (f .count / 68 * 68) (f .count)) × (r ≤ f .count) ⌝ }
 {
     if f.failed {
         return f.count / 68 * 68;

@@ -1,11 +1,7 @@
-use mathlib.Core.Path.{_≡_}
-use mathlib.Core.Bool.{true}
-use lib.Ieee.{Float, le}
-use Rattle.floats.specs.Arithmetic.{f0, f1}
 use Rattle.block.specs.Block.{minMax}
 use Rattle.encode.specs.Encoder.{compressed}
 use Rattle.block.proofs.Laws.{entered-unit}
-use Rattle.block.proofs.Extremes.{smallest-sample, largest-sample}
+use Rattle.block.proofs.Extremes.{extremes-unit}
 use borrow.Author.Needs.{needs}
 use Rattle.encode.proofs.compress_bc4_block.Statement.{statement}
 use Rattle.encode.proofs.compress_bc4_block.Tie as tie
@@ -20,13 +16,7 @@ encoded-requires : tie.Need-encoded-requires
 unfolding minMax
 encoded-requires c κs =
     let r = c .before .before .before .from-raw in
-    let u = entered-unit (c .before .before .before .before .args .samples .now) in
-    rw (c .min-max .ensures, r .ensures) (
-      smallest-sample _ (λ (x : Float). le f0 x ≡ true) (u .from-0),
-      smallest-sample _ (λ (x : Float). le x f1 ≡ true) (u .to-1),
-      largest-sample _ (λ (x : Float). le f0 x ≡ true) (u .from-0),
-      largest-sample _ (λ (x : Float). le x f1 ≡ true) (u .to-1),
-    )
+    rw (c .min-max .ensures, r .ensures) (extremes-unit _ (entered-unit (c .before .before .before .before .args .samples .now)))
 
 returns : tie.Need-returns
 unfolding compressed

@@ -1,7 +1,6 @@
 -- `stream::fill` reads to the end of its buffer or of the input. Assumes nothing.
-use mathlib.Core.Path.{_≡_, refl}
+use mathlib.Core.Path.{_≡_}
 use Prim.Native.Nat.{_≤_, _-_}
-use native.Mathlib.Omega.{arith}
 use lib.ListN.{length}
 use borrow.Author.Needs.{needs}
 use Rattle.stream.proofs.fill.Statement.{statement}
