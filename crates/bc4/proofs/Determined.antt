@@ -1,5 +1,5 @@
 -- A promise leaves no choice: two outcomes that a call's contract allows, of one call, are equal. `Post` of a call is its contract as the checker
--- reads it, over the arguments, the result, and what lent memory holds at the end. Assumes nothing.
+-- reads it, over the arguments, the result, and what lent memory holds at the end.
 use mathlib.Core.Path.{_≡_, sym, ap, _∙_}
 use mathlib.Core.List.{List}
 use Prim.Native.Nat.{ℕ}

@@ -1,11 +1,11 @@
--- Demand 3's rule on one resend: the held bytes stay, or fresh ones of strictly smaller block error take their place. Assumes nothing.
+-- Demand 3's rule on one resend: the held bytes stay, or fresh ones of strictly smaller block error take their place.
 use mathlib.Core.Path.{_≡_, refl}
 use mathlib.Core.Logic.{_⊎_, inl, inr}
 use mathlib.Core.Bool.{Bool, true, false, cond}
 use mathlib.Core.List.{List}
 use Prim.Native.Nat.{ℕ}
 use lib.Ieee.{Float, lt}
-use Rattle.refine.specs.declared.options.Options.{Options}
+use Rattle.options.specs.declared.Options.{Options}
 use Rattle.encode.specs.Encoder.{compressed}
 use Rattle.decode.specs.BlockError.{blockError}
 use Rattle.bc4.specs.declared.Held.{Held}

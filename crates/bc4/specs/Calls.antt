@@ -6,7 +6,7 @@ use Prim.Native.Nat.{ℕ}
 use lib.ListN.{length, take, drop}
 use lib.Ieee.{Float, lt}
 use Rattle.index_list.specs.Layout.{fromBytes}
-use Rattle.refine.specs.declared.options.Options.{Options}
+use Rattle.options.specs.declared.Options.{Options}
 use Rattle.encode.specs.Encoder.{compressed}
 use Rattle.decode.specs.Meaning.{decoded}
 use Rattle.decode.specs.BlockError.{blockError}

@@ -9,9 +9,9 @@ use mathlib.Core.List.{List, [], _∷_, _++_}
 use Prim.Native.Nat.{ℕ, _/_, _%_, _^_}
 use lib.Dec.{eqb, ltb}
 use lib.Ieee.{Float}
-use Rattle.refine.specs.declared.options.Options.{Options}
-use Rattle.refine.specs.declared.options.Quantization.{Quantization}
-use Rattle.refine.specs.declared.options.Quantization.the-variants.{Round, MediumQuality, HighQuality}
+use Rattle.options.specs.declared.Options.{Options}
+use Rattle.options.specs.declared.Quantization.{Quantization}
+use Rattle.options.specs.declared.Quantization.the-variants.{Round, MediumQuality, HighQuality}
 use Rattle.refusal.specs.declared.Refusal.the-variants.{WordMalformed}
 use Rattle.bc4.specs.declared.word.Word.{Word}
 use Rattle.bc4.specs.declared.Encoded.{Encoded}

@@ -8,8 +8,8 @@ ghost use Rattle.bc4.specs.Calls.{encodeAnswer, samplesAfter, errorAnswe
 
 pub mod word;
 
-pub use refine::options::Options;
-pub use refine::options::Quantization;
+pub use options::Options;
+pub use options::Quantization;
 pub use refusal::Checked;
 pub use refusal::Refusal;
 pub use refusal::number;

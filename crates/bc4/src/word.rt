@@ -6,8 +6,8 @@ ghost use Rattle.bc4.specs.Word.{optionsOf, qualityOf, wordOf, encodeByW
 use crate::Encoded;
 use crate::Resent;
 use crate::Tiled;
-use refine::options::Options;
-use refine::options::Quantization;
+use options::Options;
+use options::Quantization;
 
 // The options of a malformed word matter only to what is checked before it: a resend with dither.
 pub struct Word {

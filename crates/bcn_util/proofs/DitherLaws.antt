@@ -1,4 +1,4 @@
--- Dither: one pixel of the loop for any rule, the indexes of a dithered block, and the sums of the table. Assumes nothing.
+-- Dither: one pixel of the loop for any rule, the indexes of a dithered block, and the sums of the table.
 use mathlib.Core.Path.{_≡_, refl}
 use mathlib.Core.Bool.{Bool, true, false, _&&_}
 use mathlib.Core.List.{List}

@@ -1,4 +1,4 @@
--- The error map after a pixel, by the table's targets and shares. Assumes nothing.
+-- The error map after a pixel, by the table's targets and shares.
 use mathlib.Core.Path.{_≡_, refl}
 use mathlib.Core.List.{List}
 use Prim.Native.Nat.{ℕ, zero, suc, _<_}

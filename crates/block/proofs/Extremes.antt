@@ -1,4 +1,4 @@
--- The smallest and the largest of sixteen: whatever the order of comparing, none is beyond them, and each is one of the sixteen. Assumes nothing.
+-- The smallest and the largest of sixteen: whatever the order of comparing, none is beyond them, and each is one of the sixteen.
 use mathlib.Core.Path.{_≡_, refl}
 use mathlib.Core.List.{List}
 use mathlib.Core.Bool.{Bool, true, false, cond}

@@ -1,4 +1,4 @@
--- A loop that fills an array from its start: what holds after i turns, one turn more, and the end. Assumes nothing.
+-- A loop that fills an array from its start: what holds after i turns, one turn more, and the end.
 use mathlib.Core.Path.{_≡_, refl, sym, ap, _∙_, subst}
 use mathlib.Core.List.{List}
 use Prim.Native.Nat.{ℕ, zero, suc, _+_, _<_}

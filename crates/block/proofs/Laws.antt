@@ -1,4 +1,4 @@
--- What `Block` gives: samples in 0..1, whatever they were; with a threshold, (1, 0) where only 0 and 1 are present. Assumes nothing.
+-- What `Block` gives: samples in 0..1, whatever they were; with a threshold, (1, 0) where only 0 and 1 are present.
 use mathlib.Core.Path.{_≡_, refl}
 use mathlib.Core.Logic.{_⊎_, inl, inr}
 use mathlib.Core.List.{List}

@@ -1,4 +1,4 @@
--- What entry leaves: of the floats that are not below 1 only 1 itself, and equal values that are identical. Assumes nothing.
+-- What entry leaves: of the floats that are not below 1 only 1 itself, and equal values that are identical.
 use mathlib.Core.Path.{_≡_, refl, _∙_}
 use mathlib.Core.Bool.{Bool, true, false, cond}
 use mathlib.Core.List.{List}

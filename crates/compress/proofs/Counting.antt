@@ -1,4 +1,4 @@
--- How many samples are not above a float, as a count over the first n, and the largest of those. Assumes nothing.
+-- How many samples are not above a float, as a count over the first n, and the largest of those.
 use mathlib.Core.Path.{_≡_, refl}
 use mathlib.Core.Logic.{_⊎_, inl, inr, ⊎-elim, dite}
 use mathlib.Core.Bool.{Bool, true, false, cond}

@@ -1,5 +1,5 @@
 -- The walk to the first move that fails is the Rust's loop, which notes such a move and goes on: nothing else has changed by then, so that the same
--- side is next, and the loop breaks. Assumes nothing.
+-- side is next, and the loop breaks.
 use mathlib.Core.Path.{_≡_, refl, ap}
 use mathlib.Core.Bool.{Bool, true, false, cond}
 use mathlib.Core.List.{List}

@@ -1,4 +1,4 @@
--- The samples by place and the moves between places, by steps of the loops. Assumes nothing.
+-- The samples by place and the moves between places, by steps of the loops.
 use mathlib.Core.Path.{_≡_, refl}
 use mathlib.Core.Bool.{Bool, true, false, cond}
 use mathlib.Core.List.{List}

@@ -1,5 +1,5 @@
 -- `placed` is the sorted sixteen, for samples in 0..1: the places are in order, each holds a sample, and as many places as samples are not
--- above any float. All of it follows from `placed-le`. Assumes nothing.
+-- above any float. All of it follows from `placed-le`.
 use mathlib.Core.Path.{_≡_, refl, sym, _∙_}
 use mathlib.Core.Logic.{_⊎_, inl, inr, ⊎-elim}
 use mathlib.Core.Bool.{Bool, true, false, cond, _||_}

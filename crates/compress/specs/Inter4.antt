@@ -8,7 +8,7 @@ use Rattle.floats.specs.Arithmetic.{_⊖_, bits, f1}
 use Rattle.floats.specs.declared.Pair.{Pair}
 use Rattle.block.specs.Block.{bc4MinValue, minMaxWithThreshold}
 use Rattle.palette.specs.declared.Kind.the-variants.{Four}
-use Rattle.refine.specs.declared.options.Options.{Options}
+use Rattle.options.specs.declared.Options.{Options}
 use Rattle.refine.specs.declared.rounds.Held.{Held}
 use Rattle.refine.specs.Rounds.{held}
 use Rattle.refine.specs.Refining.{refinedEnds}

@@ -7,7 +7,7 @@ use Rattle.floats.specs.Helpers.{minOf, maxOf}
 use Rattle.floats.specs.declared.Pair.{Pair}
 use Rattle.block.specs.Block.{mean}
 use Rattle.palette.specs.declared.Kind.the-variants.{Six}
-use Rattle.refine.specs.declared.options.Options.{Options}
+use Rattle.options.specs.declared.Options.{Options}
 use Rattle.refine.specs.Refining.{refinedEnds}
 use Rattle.fit.specs.Fit.{fitted}
 use Rattle.coding.specs.declared.Coded.{Coded}

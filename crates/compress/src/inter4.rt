@@ -5,7 +5,7 @@ ghost use Rattle.compress.specs.Inter4.{far as farOf, upward as upwardOf
 use coding::Coded;
 use floats::Pair;
 use palette::Kind;
-use refine::options::Options;
+use options::Options;
 use refine::rounds::Held;
 
 const BC4_MIN_VALUE: f32 = 1.0 / (255.0 * 7.0);

@@ -4,7 +4,7 @@ ghost use Rattle.compress.specs.Inter6.{compressedFrom, nudged as nudged
 use coding::Coded;
 use floats::Pair;
 use palette::Kind;
-use refine::options::Options;
+use options::Options;
 
 // compress_inter6_impl
 fn compressed_from(b: &[f32; 16], p: Pair, o: Options) -> Coded

@@ -1,4 +1,4 @@
--- A float by its bits: `magnitude` is how many of 2 ^ -149 it is. Assumes nothing.
+-- A float by its bits: `magnitude` is how many of 2 ^ -149 it is.
 use mathlib.Core.Path.{_≡_, sym, _∙_, subst}
 use Prim.Native.Nat.{ℕ, zero, suc, _+_, _*_, _/_, _%_, _^_, _<_}
 use native.Mathlib.Nat.{eq-of-mul-eq-mul-right, mul-one}

@@ -1,4 +1,4 @@
--- What rounding costs a blend of two ends, for each palette. Assumes nothing.
+-- What rounding costs a blend of two ends, for each palette.
 use mathlib.Core.Path.{_≡_, refl, sym, ap, _∙_, subst}
 use Prim.Native.Nat.{ℕ, _+_, _-_, _*_, _^_, _≤_, _<_}
 use native.Mathlib.Nat.{le-trans, le-of-eq, mul-comm, mul-left-comm, mul-add, add-mul, mul-le-mul-left, mul-le-mul-right, mul-le-mul}

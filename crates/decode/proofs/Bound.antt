@@ -1,5 +1,5 @@
 -- The bound of demand 2: every decoded float is within 1 / 2,097,152 of its exact fraction, for every two bytes and every index, in both
--- formats. Assumes nothing.
+-- formats.
 use mathlib.Core.Path.{_≡_, refl, sym, ap, ap₂, _∙_, subst}
 use mathlib.Core.Bool.{Bool, true, false, cond}
 use Prim.Native.Nat.{ℕ, zero, suc, _+_, _*_, _^_, _≤_, _<_}

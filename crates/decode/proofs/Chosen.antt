@@ -1,5 +1,5 @@
 -- The decoder reads what the encoder means: the index that a palette answers for a sample stands for the value that it answers, and the samples of a
--- block that was laid out are the values of its indexes. Assumes nothing.
+-- block that was laid out are the values of its indexes.
 use mathlib.Core.Path.{_≡_, refl, sym, ap, _∙_}
 use mathlib.Core.Bool.{Bool, true, false, cond}
 use Prim.Native.Nat.{ℕ, zero, suc, _<_}

@@ -1,4 +1,4 @@
--- The ends' floats beside the fractions that they stand for. Assumes nothing.
+-- The ends' floats beside the fractions that they stand for.
 -- In this file and the next ones `t` is 2 ^ 123 units: 1 is 67108864 * t, and half the last place of a value up to 1 is 2 * t. It stays a variable
 -- wherever `omega` is used, which takes no number of more than 38 digits.
 use mathlib.Core.Path.{_≡_, sym, _∙_, subst}

@@ -1,4 +1,4 @@
--- A block error is at most 64, whatever the samples: finite, and no NaN, so that a comparison of two means what it says. Assumes nothing.
+-- A block error is at most 64, whatever the samples: finite, and no NaN, so that a comparison of two means what it says.
 use mathlib.Core.Path.{_≡_, subst}
 use mathlib.Core.Bool.{Bool}
 use mathlib.Core.List.{List}

@@ -1,4 +1,4 @@
--- The sum of a block error by one pixel more, a decoded sample by its pixel, and the sizes of bytes and indexes. Assumes nothing.
+-- The sum of a block error by one pixel more, a decoded sample by its pixel, and the sizes of bytes and indexes.
 use mathlib.Core.Path.{_≡_, sym, ap, _∙_}
 use mathlib.Core.List.{List, [], _∷_}
 use mathlib.Core.Bool.{Bool}

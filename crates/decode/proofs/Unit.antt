@@ -1,4 +1,4 @@
--- Decoded values are in 0..1: none is negative, over 1, infinite or NaN. Assumes nothing.
+-- Decoded values are in 0..1: none is negative, over 1, infinite or NaN.
 use mathlib.Core.Path.{_≡_, refl, ap, _∙_, subst}
 use mathlib.Core.Bool.{Bool, true, false, cond, not, _&&_, _||_}
 use Prim.Native.Nat.{ℕ, zero, suc, _+_, _*_, _^_, _≤_, _<_}

@@ -1,4 +1,4 @@
--- A choice of the encoder's, once it is laid out, decodes to the values that it means. Assumes nothing.
+-- A choice of the encoder's, once it is laid out, decodes to the values that it means.
 use mathlib.Core.Path.{_≡_, refl, sym, ap, _∙_}
 use mathlib.Core.List.{List}
 use mathlib.Core.Bool.{Bool, true, false}
@@ -21,7 +21,7 @@ use Rattle.palette.specs.declared.Kind.{Kind}
 use Rattle.palette.specs.declared.Kind.the-variants.{Six, Four}
 use Rattle.palette.proofs.ClosestLaws.{closest6-lt, closest4-lt}
 use Rattle.bcn_util.proofs.DitherLaws.{indexes-filled}
-use Rattle.refine.specs.declared.options.Options.{Options}
+use Rattle.options.specs.declared.Options.{Options}
 use Rattle.coding.specs.Coding.{indexedBy, written}
 use Rattle.search.specs.Covered.{endsOf}
 use Rattle.decode.specs.Meaning.{valueAt, decoded}

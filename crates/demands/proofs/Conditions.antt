@@ -1,4 +1,4 @@
--- Each check says what the table's condition says. Assumes nothing.
+-- Each check says what the table's condition says.
 use mathlib.Core.Path.{_≡_, refl, sym, ap, _∙_, subst}
 use mathlib.Core.Bool.{Bool, true, false, not, cond, _||_}
 use mathlib.Core.Logic.{_⊎_, inl, inr}

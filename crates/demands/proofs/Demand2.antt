@@ -1,4 +1,4 @@
--- Demand 2. Assumes nothing.
+-- Demand 2.
 use mathlib.Core.Path.{_≡_, refl, sym, ap, _∙_, subst}
 use mathlib.Core.Bool.{false}
 use mathlib.Core.Logic.{inl, inr}
@@ -10,7 +10,7 @@ use borrow.Author.Tests.{ltb-false}
 use Rattle.floats.proofs.Tests.{clash}
 use Rattle.index_list.specs.Layout.{bytesOf, fromBytes}
 use Rattle.block.specs.Samples.{pixelAt}
-use Rattle.refine.specs.declared.options.Options.{Options}
+use Rattle.options.specs.declared.Options.{Options}
 use Rattle.encode.specs.Encoder.{compressed}
 use Rattle.decode.proofs.Bound.{decoded-close}
 use Rattle.place.specs.Place.{along, encodedLength, blockAt, blockOf}

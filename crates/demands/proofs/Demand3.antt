@@ -1,4 +1,4 @@
--- Demand 3. Assumes nothing.
+-- Demand 3.
 use mathlib.Core.Path.{_≡_, refl, sym, subst}
 use mathlib.Core.Bool.{Bool, true, false, cond}
 use mathlib.Core.List.{List}
@@ -16,8 +16,8 @@ use Rattle.end_points.proofs.Ordered.{low-le, levels-distinct}
 use Rattle.palette.specs.declared.Kind.{Kind}
 use Rattle.palette.specs.PaletteError.{paletteError}
 use Rattle.palette.proofs.Finite.{error-within}
-use Rattle.refine.specs.declared.options.Options.{Options}
-use Rattle.refine.specs.declared.options.Quantization.the-variants.{MediumQuality, HighQuality}
+use Rattle.options.specs.declared.Options.{Options}
+use Rattle.options.specs.declared.Quantization.the-variants.{MediumQuality, HighQuality}
 use Rattle.refine.specs.declared.rounds.Held.{Held}
 use Rattle.refine.specs.Rounds.{held, better}
 use Rattle.refine.specs.Refining.{quantizedPair, heldPair, betterPair, otherPair, closerPair, medium, highTo, pairOf, quantizing, refinedEnds, leastStep, firstStep}

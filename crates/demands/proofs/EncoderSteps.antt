@@ -1,4 +1,4 @@
--- What document 01 says of the encoder's parts, gathered. Assumes nothing.
+-- What document 01 says of the encoder's parts, gathered.
 use Rattle.block.proofs.Laws.{entered-unit}
 use Rattle.end_points.proofs.Modes.{inter6-order, inter4-order, inter6-sound, inter4-sound}
 use Rattle.floats.proofs.Differences.{negative-past-1}

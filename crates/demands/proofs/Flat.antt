@@ -1,4 +1,4 @@
--- A block of one level goes through the encoder as its closest endpoints with index 0. Assumes nothing.
+-- A block of one level goes through the encoder as its closest endpoints with index 0.
 use mathlib.Core.Path.{_≡_, refl}
 use mathlib.Core.Bool.{Bool, true, false, not, _&&_}
 use mathlib.Core.List.{List}
@@ -12,7 +12,7 @@ use Rattle.block.specs.Orders.{element, downLane}
 use Rattle.block.specs.Block.{entered, smallest, largest, minMax}
 use Rattle.values.specs.Values.{levelValue}
 use Rattle.index_list.specs.Indexes.{filledTo}
-use Rattle.refine.specs.declared.options.Options.{Options}
+use Rattle.options.specs.declared.Options.{Options}
 use Rattle.single.specs.Single.{epsilon, uniform, singleColor}
 use Rattle.encode.specs.Encoder.{searches, middle, encoded, compressed}
 

@@ -1,4 +1,4 @@
--- The literals, each computed. Assumes nothing.
+-- The literals, each computed.
 use mathlib.Core.Path.{refl}
 use lib.Ieee.{ofBits, ofInt, add, sub, mul, div, round}
 use Rattle.bcn_util.proofs.DitherLaws.{weights-are}

@@ -1,4 +1,4 @@
--- The lowest check that applies, for any list of checks in number order: exactly when. Assumes nothing.
+-- The lowest check that applies, for any list of checks in number order: exactly when.
 use mathlib.Core.Path.{_≡_, refl, sym, ap, _∙_, subst}
 use mathlib.Core.Bool.{Bool, true, false, cond}
 use mathlib.Core.Logic.{_⊎_, inl, inr}

@@ -1,4 +1,4 @@
--- What is written decodes to what was chosen: each way through the encoder. Assumes nothing.
+-- What is written decodes to what was chosen: each way through the encoder.
 use mathlib.Core.Path.{_≡_, refl, sym, _∙_}
 use mathlib.Core.List.{List}
 use mathlib.Core.Bool.{Bool, true, false, cond, not, _&&_}
@@ -15,7 +15,7 @@ use Rattle.end_points.specs.EndPoints.{closest}
 use Rattle.end_points.proofs.Made.{closest-made}
 use Rattle.palette.specs.declared.Kind.{Kind}
 use Rattle.palette.specs.declared.Kind.the-variants.{Six, Four}
-use Rattle.refine.specs.declared.options.Options.{Options}
+use Rattle.options.specs.declared.Options.{Options}
 use Rattle.coding.specs.declared.Coded.{Coded}
 use Rattle.coding.specs.Coding.{indexedBy, written, ended6, ended4, coded6, coded4}
 use Rattle.compress.specs.Inter6.{smaller, compressInter6}

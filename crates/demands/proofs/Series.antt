@@ -1,4 +1,4 @@
--- A series of resends: what is held stays or gets strictly better, and the flag tells which. Assumes nothing.
+-- A series of resends: what is held stays or gets strictly better, and the flag tells which.
 use mathlib.Core.Path.{_≡_, refl, sym, subst}
 use mathlib.Core.Logic.{inl, inr}
 use mathlib.Core.Bool.{Bool, true}
@@ -10,7 +10,7 @@ use Rattle.floats.proofs.Tests.{clash}
 use Rattle.floats.proofs.Order.{lt-irrefl, lt-trans}
 use Rattle.index_list.specs.Layout.{bytesOf, fromBytes, AllBytes}
 use Rattle.index_list.proofs.ReadBack.{bytes-all, bytes-from}
-use Rattle.refine.specs.declared.options.Options.{Options}
+use Rattle.options.specs.declared.Options.{Options}
 use Rattle.decode.specs.BlockError.{blockError}
 use Rattle.decode.proofs.Laws.{error-of-bytes}
 use Rattle.refusal.specs.declared.Checked.{Checked}

@@ -1,4 +1,4 @@
--- Document 01's values worked by hand, each computed over the definitions. Assumes nothing.
+-- Document 01's values worked by hand, each computed over the definitions.
 use mathlib.Core.Path.{refl}
 use lib.Ieee.{ofBits, mul, add, sub, lt, le, ne, toUnsigned}
 use Rattle.index_list.specs.Indexes.{filledTo}

@@ -8,7 +8,7 @@ use lib.ListN.{length, take, drop}
 use lib.Ieee.{Float, isNan}
 use Rattle.index_list.specs.Layout.{byteAt, bytesOf, fromBytes}
 use Rattle.block.specs.Samples.{pixelAt}
-use Rattle.refine.specs.declared.options.Options.{Options}
+use Rattle.options.specs.declared.Options.{Options}
 use Rattle.encode.specs.Encoder.{compressed}
 use Rattle.decode.specs.Meaning.{blockIndex}
 use Rattle.decode.specs.Exact.{exactNum, exactDen, Close}

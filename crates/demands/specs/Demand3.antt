@@ -13,8 +13,8 @@ use Rattle.block.specs.Block.{entered, minMax, minMaxWithThreshold, bc4MinValue
 use Rattle.palette.specs.declared.Kind.{Kind}
 use Rattle.palette.specs.declared.Kind.the-variants.{Six, Four}
 use Rattle.palette.specs.PaletteError.{paletteError}
-use Rattle.refine.specs.declared.options.Options.{Options}
-use Rattle.refine.specs.declared.options.Quantization.the-variants.{MediumQuality, HighQuality}
+use Rattle.options.specs.declared.Options.{Options}
+use Rattle.options.specs.declared.Quantization.the-variants.{MediumQuality, HighQuality}
 use Rattle.refine.specs.Rounds.{refined}
 use Rattle.refine.specs.Refining.{firstStep, leastStep, quantizedPair, quantizing}
 use Rattle.coding.specs.Coding.{coded6, coded4}

@@ -21,7 +21,7 @@ use Rattle.palette.specs.declared.Closest.{Closest}
 use Rattle.palette.specs.Palettes.{inter6Palette, colors}
 use Rattle.palette.specs.Closest.{closest6, closest4}
 use Rattle.bcn_util.specs.Dither.{ditherTo}
-use Rattle.refine.specs.declared.options.Options.{Options}
+use Rattle.options.specs.declared.Options.{Options}
 use Rattle.search.specs.Covered.{Covered, endsOf}
 use Rattle.single.specs.Single.{epsilon}
 use Rattle.encode.specs.Encoder.{searches, sixOnly, middle, compressed}

@@ -14,7 +14,7 @@ use Rattle.block.specs.Samples.{pixelAt, perPixel}
 use Rattle.block.specs.Block.{bc4MinValue, minMaxWithThreshold}
 use Rattle.end_points.specs.declared.EndPoints.{EndPoints}
 use Rattle.end_points.specs.EndPoints.{inter6}
-use Rattle.refine.specs.declared.options.Options.{Options}
+use Rattle.options.specs.declared.Options.{Options}
 use Rattle.encode.specs.Encoder.{searches, compressed}
 
 -- the endpoint bytes are c0 and c1

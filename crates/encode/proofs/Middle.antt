@@ -1,4 +1,4 @@
--- The middle of two values in 0..1 is in 0..1, and so is that of a block as it has entered. Assumes nothing.
+-- The middle of two values in 0..1 is in 0..1, and so is that of a block as it has entered.
 use mathlib.Core.Path.{_≡_, refl}
 use mathlib.Core.Bool.{true}
 use mathlib.Core.List.{List}

@@ -1,10 +1,10 @@
--- Where the search applies, its bytes are the block's. Assumes nothing.
+-- Where the search applies, its bytes are the block's.
 use mathlib.Core.Path.{_≡_}
 use mathlib.Core.Bool.{true}
 use mathlib.Core.List.{List}
 use lib.Ieee.{Float}
 use Rattle.block.specs.Block.{minMax, entered}
-use Rattle.refine.specs.declared.options.Options.{Options}
+use Rattle.options.specs.declared.Options.{Options}
 use Rattle.search.specs.Search.{searched}
 use Rattle.encode.specs.Encoder.{searches, encoded, compressed}
 

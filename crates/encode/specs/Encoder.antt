@@ -6,7 +6,7 @@ use lib.Ieee.{Float, lt}
 use Rattle.floats.specs.Arithmetic.{_⊕_, _⊖_, _⊗_, bits, f0, f1, half}
 use Rattle.floats.specs.declared.Pair.{Pair}
 use Rattle.block.specs.Block.{entered, minMax}
-use Rattle.refine.specs.declared.options.Options.{Options}
+use Rattle.options.specs.declared.Options.{Options}
 use Rattle.coding.specs.declared.Coded.{Coded}
 use Rattle.compress.specs.Inter6.{compressInter6}
 use Rattle.compress.specs.Inter4.{compressInter4}

@@ -6,7 +6,7 @@ ghost use lib.Ieee.{le};
 ghost use Rattle.floats.specs.Arithmetic.{f0, f1};
 use coding::Coded;
 use floats::Pair;
-use refine::options::Options;
+use options::Options;
 
 const INTER6_THRESHOLD: f32 = 1.0 / 7.0;
 

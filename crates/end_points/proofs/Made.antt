@@ -1,4 +1,4 @@
--- Endpoints as the encoder makes them: two bytes, and Sound. Assumes nothing.
+-- Endpoints as the encoder makes them: two bytes, and Sound.
 use mathlib.Core.Path.{_≡_, refl}
 use mathlib.Core.Bool.{Bool, true, false}
 use Prim.Native.Nat.{ℕ, _<_}

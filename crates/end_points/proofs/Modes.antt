@@ -1,4 +1,4 @@
--- Endpoints of any two floats, NaN included, are in the mode that they were made for, and Sound; quantize hands back their floats. Assumes nothing.
+-- Endpoints of any two floats, NaN included, are in the mode that they were made for, and Sound; quantize hands back their floats.
 use mathlib.Core.Path.{_≡_, refl, sym, ap}
 use Prim.Native.Nat.{ℕ, _≤_}
 use native.Mathlib.Omega.{arith}

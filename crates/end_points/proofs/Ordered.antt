@@ -1,4 +1,4 @@
--- The two levels of any two floats, NaN included, differ, the low one first, and are in the format. Assumes nothing.
+-- The two levels of any two floats, NaN included, differ, the low one first, and are in the format.
 use mathlib.Core.Path.{_≡_, refl, sym, _∙_}
 use mathlib.Core.Logic.{⊎-elim}
 use Prim.Native.Nat.{ℕ, zero, suc, _+_, _-_, _≤_, _<_}

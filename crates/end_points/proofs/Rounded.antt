@@ -1,4 +1,4 @@
--- The three roundings of a float to a level: they keep the order, stay in the format, and the two that go outwards leave room between them. Assumes nothing.
+-- The three roundings of a float to a level: they keep the order, stay in the format, and the two that go outwards leave room between them.
 use mathlib.Core.Path.{_≡_, refl}
 use mathlib.Core.Logic.{⊎-elim}
 use Prim.Native.Nat.{ℕ, zero, suc, _+_, _≤_, _<_}

@@ -1,5 +1,5 @@
 -- A promise leaves no choice, for the calls that cross to C: two outcomes that a call's contract allows, of one call, have the same number and leave the same
--- in all memory that was lent. Assumes nothing.
+-- in all memory that was lent.
 use mathlib.Core.Path.{sym, _∙_}
 use Rattle.bc4.proofs.Determined.{One-answer, One-end}
 use Rattle.exports.proofs.bc4_version.Kinds as version-kinds

@@ -1,4 +1,4 @@
--- Where every blend is above -1, the ends that the lanes give are those of the fit. Assumes nothing.
+-- Where every blend is above -1, the ends that the lanes give are those of the fit.
 use mathlib.Core.Path.{_≡_, refl, sym, ap, ap₂, _∙_}
 use mathlib.Core.List.{List}
 use mathlib.Core.Bool.{Bool, true, false, _&&_, false≢true}

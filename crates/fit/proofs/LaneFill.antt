@@ -1,4 +1,4 @@
--- A loop that fills sixteen places lane by lane: what holds after j lanes, one lane more, and the end. Assumes nothing.
+-- A loop that fills sixteen places lane by lane: what holds after j lanes, one lane more, and the end.
 use mathlib.Core.Path.{_≡_, refl, _∙_, subst}
 use mathlib.Core.Logic.{_≢_}
 use mathlib.Core.List.{List}

@@ -1,5 +1,5 @@
 -- Bounds by whole numbers. An operation on values within bounds is within the bound that the bounds' own sum or product gives, as long as
--- that is at most 2 ^ prec, up to which a format holds every whole number. So it is finite, and no NaN. Assumes nothing.
+-- that is at most 2 ^ prec, up to which a format holds every whole number. So it is finite, and no NaN.
 use mathlib.Core.Path.{_≡_, refl, sym, ap, _∙_, subst}
 use Prim.Native.Nat.{ℕ, _+_, _-_, _*_, _^_, _≤_, _<_}
 use native.Mathlib.Nat.{le-trans, le-of-eq, mul-comm, mul-assoc, mul-right-comm, mul-left-comm, mul-one, add-mul, mul-le-mul, mul-le-mul-right, le-of-mul-le-mul-right, mul-pos, zero-lt-suc}

@@ -1,5 +1,5 @@
 -- `x as u8` and other casts to unsigned integers: they keep the order, and x is at least a whole number k in the range exactly when its cast is.
--- So a cast is found by tests, and tests of a cast by the cast. Assumes nothing.
+-- So a cast is found by tests, and tests of a cast by the cast.
 use mathlib.Core.Path.{_≡_, refl, sym, _∙_, subst}
 use Prim.Native.Nat.{ℕ, _-_, _*_, _/_, _^_, _≤_, _<_, min}
 use native.Mathlib.Nat.{mul-one, mul-pos, le-div-iff-mul-le}

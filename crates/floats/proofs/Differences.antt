@@ -1,4 +1,4 @@
--- Differences: the size is the same from either side, and 1 less what is above 1 is negative and not lost in rounding. Assumes nothing.
+-- Differences: the size is the same from either side, and 1 less what is above 1 is negative and not lost in rounding.
 use mathlib.Core.Path.{_≡_, refl, sym, ap, _∙_}
 use Prim.Native.Nat.{ℕ, zero, suc, _+_, _*_, _%_, _^_, _≤_, _<_}
 use native.Mathlib.Nat.{mul-comm, add-mul, mul-le-mul-right}

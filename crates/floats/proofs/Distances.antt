@@ -1,4 +1,4 @@
--- The distances of a value in 0..1 from 0 and from 1, as f32 works them out: the value itself, and 1 less it. abs by the distance from 0. Assumes nothing.
+-- The distances of a value in 0..1 from 0 and from 1, as f32 works them out: the value itself, and 1 less it. abs by the distance from 0.
 use mathlib.Core.Path.{_≡_, refl, sym, ap, _∙_}
 use Prim.Native.Nat.{ℕ, zero, suc, _-_, _*_, _≤_, _<_}
 use native.Mathlib.Nat.{mul-pos}

@@ -1,4 +1,4 @@
--- The operations at floats of which a fraction is known (`HasValue`), with either sign: each is `round` of the exact result. Assumes nothing.
+-- The operations at floats of which a fraction is known (`HasValue`), with either sign: each is `round` of the exact result.
 use mathlib.Core.Path.{_≡_, refl, sym, ap, ap₂, _∙_, subst}
 use Prim.Native.Nat.{ℕ, _+_, _-_, _*_, _≤_, _<_}
 use native.Mathlib.Nat.{mul-comm, mul-assoc, mul-right-comm, add-mul, mul-sub, mul-pos, mul-mul-mul-comm, mul-lt-mul-of-pos-right, lt-of-mul-lt-mul-right}

@@ -1,5 +1,4 @@
 -- A format writes a number in one way: two values that are the same fraction are the same datum, and a value that the format holds is rounded to itself.
--- Assumes nothing.
 use mathlib.Core.Path.{_≡_, refl, sym, ap, _∙_, subst}
 use mathlib.Core.Logic.{dite}
 use Prim.Native.Nat.{ℕ, zero, suc, _+_, _-_, _*_, _/_, _%_, _^_, _≤_, _<_}

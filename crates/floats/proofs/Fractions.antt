@@ -1,4 +1,4 @@
--- Signed fractions ±x / p, compared across as `lt` and `le` compare two finite floats: what carries from numbers to their order. Assumes nothing.
+-- Signed fractions ±x / p, compared across as `lt` and `le` compare two finite floats: what carries from numbers to their order.
 use mathlib.Core.Path.{_≡_, sym, ap, _∙_, subst}
 use mathlib.Core.Logic.{_⊎_, inl, inr, ⊎-elim}
 use Prim.Native.Nat.{ℕ, zero, suc, _+_, _*_, _≤_, _<_}

@@ -1,5 +1,5 @@
 -- The operations keep the order, for all floats: rounding, a product with a factor above 0, a sum with a finite term; a difference turns it round.
--- Overflow, subnormals, infinities and zeros of either sign are all covered. Assumes nothing.
+-- Overflow, subnormals, infinities and zeros of either sign are all covered.
 use mathlib.Core.Path.{_≡_, refl, sym, ap, ap₂, _∙_, subst}
 use Prim.Native.Nat.{ℕ, _*_, _≤_, _<_}
 use native.Mathlib.Nat.{mul-pos, mul-comm as n-comm, mul-assoc, mul-left-comm, zero-mul}

@@ -1,5 +1,5 @@
 -- The whole part of a float below 2 ^ 23 by a sum and a difference. From 2 ^ 23 to 2 ^ 24 the floats are the whole numbers, so the sum with
--- 2 ^ 23 is the whole number below or the one above, whichever way it was rounded. Assumes nothing.
+-- 2 ^ 23 is the whole number below or the one above, whichever way it was rounded.
 use mathlib.Core.Path.{_≡_, refl, sym, ap, _∙_, subst}
 use mathlib.Core.Logic.{_⊎_, inl, inr, ⊎-elim, dite}
 use Prim.Native.Nat.{ℕ, zero, suc, _+_, _-_, _*_, _/_, _%_, _^_, _≤_, _<_, min}

@@ -1,5 +1,5 @@
 -- Not below, `lt x y ≡ false`, as a test gives it with a NaN on either side: sums of what is not negative keep it, and a sample that lies
--- beyond an end is at least as far from all that the end holds back as from the end itself. Assumes nothing.
+-- beyond an end is at least as far from all that the end holds back as from the end itself.
 use mathlib.Core.Path.{_≡_, refl, sym, _∙_, subst}
 use mathlib.Core.Bool.{Bool, true, false}
 use Prim.Native.Nat.{ℕ}

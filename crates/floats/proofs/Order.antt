@@ -1,6 +1,6 @@
 -- The order of floats. `lt` is a strict weak order off `nan`: it is irreflexive and transitive on every Float, and where x < z, any y that is no NaN has x < y or y < z.
 -- `le` is then `lt` the other way round, denied. What else is wanted of the two follows from these by cases on Bool. Nothing here asks that a value fits a format.
--- A fact is an equation with true or false, as a test of the code gives it. Assumes nothing.
+-- A fact is an equation with true or false, as a test of the code gives it.
 use mathlib.Core.Path.{_≡_, refl, sym, ap, _∙_}
 use mathlib.Core.Logic.{_⊎_, inl, inr, ⊎-elim}
 use Prim.Native.Nat.{ℕ, _*_}

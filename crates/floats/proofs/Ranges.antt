@@ -1,4 +1,4 @@
--- What the clamps give is in 0..1, for every float; the smaller and the larger of two floats are in order, or both a NaN. Assumes nothing.
+-- What the clamps give is in 0..1, for every float; the smaller and the larger of two floats are in order, or both a NaN.
 use mathlib.Core.Path.{_≡_, refl}
 use mathlib.Core.Logic.{_⊎_, inl, inr}
 use mathlib.Core.Bool.{Bool, true, false, cond, _||_}

@@ -1,4 +1,4 @@
--- The operations at values in units of binary32's smallest, 2 ^ -149, with what rounding costs. Assumes nothing.
+-- The operations at values in units of binary32's smallest, 2 ^ -149, with what rounding costs.
 use mathlib.Core.Path.{_≡_, sym, ap, _∙_, subst}
 use Prim.Native.Nat.{ℕ, _+_, _*_, _^_, _≤_, _<_}
 use native.Mathlib.Nat.{mul-comm, mul-assoc, mul-left-comm, mul-pos}

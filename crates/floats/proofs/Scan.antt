@@ -1,4 +1,4 @@
--- The result of a scan for the least: nothing scanned is below it, with a NaN anywhere, and off NaN it is at most each. What a clamp gives is in range. Assumes nothing.
+-- The result of a scan for the least: nothing scanned is below it, with a NaN anywhere, and off NaN it is at most each. What a clamp gives is in range.
 use mathlib.Core.Path.{_≡_, refl}
 use mathlib.Core.Logic.{⊎-elim}
 use mathlib.Core.List.{List, [], _∷_}

@@ -1,4 +1,4 @@
--- Signed numbers ±a: their order, and what a factor and a term do to it. The sum of two is given by its sign and its size, as `sum` rounds it. Assumes nothing.
+-- Signed numbers ±a: their order, and what a factor and a term do to it. The sum of two is given by its sign and its size, as `sum` rounds it.
 use mathlib.Core.Path.{_≡_, refl, sym, ap, _∙_}
 use Prim.Native.Nat.{ℕ, zero, suc, _+_, _-_, _*_, _≤_, _<_}
 use native.Mathlib.Nat.{mul-pos, mul-le-mul-right, zero-mul}

@@ -1,4 +1,4 @@
--- Signs: `round` gives a value of the sign that it is handed, and the same size for either; a negation turns the order round. Zeros. Assumes nothing.
+-- Signs: `round` gives a value of the sign that it is handed, and the same size for either; a negation turns the order round. Zeros.
 use mathlib.Core.Path.{_≡_, refl, sym, ap, _∙_, subst}
 use Prim.Native.Nat.{ℕ, zero, suc, _+_, _*_, _^_, _≤_, _<_}
 use native.Mathlib.Nat.{pow-suc, mul-pos, add-comm}

@@ -1,5 +1,5 @@
 -- Squares: the square of the least distance is the least square, bit for bit and for all floats, so that code may compare squares and take no
--- absolute values. Sums of squares are never negative. Assumes nothing.
+-- absolute values. Sums of squares are never negative.
 use mathlib.Core.Path.{_≡_, refl}
 use mathlib.Core.Logic.{⊎-elim}
 use Prim.Native.Nat.{ℕ, _+_, _*_, _≤_}

@@ -1,4 +1,4 @@
--- A rule that antt computes at each number below n by one test, and what it shows of each. Floats are compared as data. Assumes nothing.
+-- A rule that antt computes at each number below n by one test, and what it shows of each. Floats are compared as data.
 use mathlib.Core.Path.{_≡_, refl, sym, ap, subst}
 use mathlib.Core.Logic.{⊎-elim}
 use mathlib.Core.Bool.{Bool, true, false, Bool·beq}

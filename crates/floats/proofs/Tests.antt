@@ -1,4 +1,4 @@
--- Tests and what they say: the small steps between a Bool, the equation that a branch gives, and a fact. Assumes nothing.
+-- Tests and what they say: the small steps between a Bool, the equation that a branch gives, and a fact.
 use mathlib.Core.Path.{_≡_, refl, sym, _∙_, subst}
 use mathlib.Core.Logic.{_⊎_, inl, inr, ⊎-elim}
 use mathlib.Core.Bool.{Bool, true, false, not, _||_, true≢false}

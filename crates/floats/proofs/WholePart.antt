@@ -1,4 +1,4 @@
--- The whole part of a float with its sign put back; from 2 ^ 23 on every value is whole. Assumes nothing.
+-- The whole part of a float with its sign put back; from 2 ^ 23 on every value is whole.
 use mathlib.Core.Path.{_≡_, refl, sym, ap, _∙_, subst}
 use mathlib.Core.Logic.{_⊎_, inl, inr}
 use Prim.Native.Nat.{ℕ, zero, suc, _-_, _*_, _/_, _%_, _^_, _≤_, _<_, min}

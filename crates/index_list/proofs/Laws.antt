@@ -1,4 +1,4 @@
--- Laws of a list of 3-bit indexes, and of the eight bytes that hold it. Assumes nothing.
+-- Laws of a list of 3-bit indexes, and of the eight bytes that hold it.
 use mathlib.Core.Path.{_≡_, refl, ap, _∙_}
 use mathlib.Core.List.{List, [], _∷_}
 use mathlib.Core.Logic.{dite}

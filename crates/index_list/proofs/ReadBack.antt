@@ -1,5 +1,4 @@
--- What was laid out is what is read: of a block its two endpoints and the index of each pixel; of eight bytes, as one number, the same bytes. Assumes
--- nothing.
+-- What was laid out is what is read: of a block its two endpoints and the index of each pixel; of eight bytes, as one number, the same bytes.
 use mathlib.Core.Path.{_≡_, refl, sym, _∙_}
 use mathlib.Core.List.{List, [], _∷_}
 use Prim.Native.Nat.{ℕ, zero, suc, _+_, _*_, _/_, _%_, _^_, _<_}

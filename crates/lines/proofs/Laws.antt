@@ -1,4 +1,4 @@
--- Laws of the text that grows in the output. Assumes nothing.
+-- Laws of the text that grows in the output.
 use mathlib.Core.Path.{_≡_, sym, ap, _∙_}
 use mathlib.Core.List.{List, _++_}
 use Prim.Native.Nat.{ℕ, zero, suc, _+_, _*_, _≤_}

@@ -1,4 +1,4 @@
--- `closest` answers an index below 8, and the value is the palette's entry there. Assumes nothing.
+-- `closest` answers an index below 8, and the value is the palette's entry there.
 use mathlib.Core.Path.{_≡_, refl, ap₂, _∙_}
 use mathlib.Core.Logic.{⊎-elim}
 use mathlib.Core.Bool.{Bool, true, false, cond}

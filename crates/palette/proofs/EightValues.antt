@@ -1,4 +1,4 @@
--- The eight values that the error looks at: each by its index, and the Rust's start for four values. Assumes nothing.
+-- The eight values that the error looks at: each by its index, and the Rust's start for four values.
 use mathlib.Core.Path.{_≡_, refl, ap₂}
 use mathlib.Core.Bool.{true}
 use Prim.Native.Nat.{ℕ, zero, suc, _<_}

@@ -1,5 +1,5 @@
 -- Floors of the palette error: for each sample a value that none of its eight squared distances is below, and these summed in the error's order; and
--- what the first row adds. They hold with a NaN anywhere. Assumes nothing.
+-- what the first row adds. They hold with a NaN anywhere.
 use mathlib.Core.Path.{_≡_, refl, subst}
 use mathlib.Core.Bool.{Bool, true, false, cond}
 use mathlib.Core.List.{List}

@@ -1,4 +1,4 @@
--- The palette error of ends and samples in 0..1 is at most 256, so it is finite and no NaN; that of anything is never negative. Assumes nothing.
+-- The palette error of ends and samples in 0..1 is at most 256, so it is finite and no NaN; that of anything is never negative.
 use mathlib.Core.Path.{_≡_}
 use mathlib.Core.Bool.{Bool, false}
 use mathlib.Core.List.{List, []}

@@ -1,4 +1,4 @@
--- What one sample adds to the palette error, by squares; and for a sample in 0..1 the distances from 0 and 1 as the Rust writes them. Assumes nothing.
+-- What one sample adds to the palette error, by squares; and for a sample in 0..1 the distances from 0 and 1 as the Rust writes them.
 use mathlib.Core.Path.{_≡_, _∙_}
 use mathlib.Core.Bool.{Bool, true, false, cond}
 use mathlib.Core.List.{List}

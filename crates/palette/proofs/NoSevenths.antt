@@ -1,5 +1,4 @@
 -- No sevenths from c1 towards c0 are c1 itself, as f32 works them out: 0 times a difference is a zero, of either sign, and adds nothing.
--- Assumes nothing.
 use mathlib.Core.Path.{_≡_, refl, ap, _∙_}
 use mathlib.Core.Bool.{Bool, true, false, cond, _&&_}
 use Prim.Native.Nat.{ℕ, _-_, _*_, _≤_}

@@ -1,4 +1,4 @@
--- Four values and a sample outside 0..1, as dithering makes it: whatever the ends, the default on its side is answered, and the error is negative. Assumes nothing.
+-- Four values and a sample outside 0..1, as dithering makes it: whatever the ends, the default on its side is answered, and the error is negative.
 use mathlib.Core.Path.{_≡_, refl, _∙_}
 use mathlib.Core.Logic.{⊎-elim}
 use mathlib.Core.Bool.{true, false}

@@ -1,5 +1,5 @@
 -- Four values and a sample in 0..1: how far off `closest` says it is, squared, is what it adds to the palette error. `closest` starts from one of 0
--- and 1 and the palette error from both, and of equal distances they keep different ones; equal distances are identical. Assumes nothing.
+-- and 1 and the palette error from both, and of equal distances they keep different ones; equal distances are identical.
 use mathlib.Core.Path.{_≡_, refl, sym, _∙_}
 use mathlib.Core.Logic.{_⊎_, inl, inr, ⊎-elim}
 use mathlib.Core.Bool.{Bool, true, false, cond}

@@ -1,4 +1,4 @@
--- What a good size says in plain numbers, and where blocks stand in it: within the bytes, and apart from one another. Assumes nothing.
+-- What a good size says in plain numbers, and where blocks stand in it: within the bytes, and apart from one another.
 use mathlib.Core.Path.{_≡_, refl, ap}
 use mathlib.Core.Bool.{Bool, true, false, _||_}
 use Prim.Native.Nat.{ℕ, _+_, _*_, _%_, _<_, _≤_}

@@ -1,4 +1,4 @@
--- The sixteen samples of a block: they stand within the tile, and are the tile's where it has one block. Assumes nothing.
+-- The sixteen samples of a block: they stand within the tile, and are the tile's where it has one block.
 use mathlib.Core.Path.{_≡_, refl, sym, ap}
 use mathlib.Core.List.{List}
 use mathlib.Core.Bool.{false}

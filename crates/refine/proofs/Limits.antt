@@ -1,4 +1,4 @@
--- Demand 3, the limits: under a larger limit a refinement ends on the same pair, or on one of strictly smaller palette error. Assumes nothing.
+-- Demand 3, the limits: under a larger limit a refinement ends on the same pair, or on one of strictly smaller palette error.
 use mathlib.Core.Path.{_≡_, refl, sym, ap, _∙_, subst}
 use mathlib.Core.Logic.{_⊎_, inl, inr}
 use mathlib.Core.Bool.{Bool, true, false, cond}

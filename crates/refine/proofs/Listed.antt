@@ -1,4 +1,4 @@
--- The candidates of a round and of high rounding are those that the Rust lists, in its order. Assumes nothing.
+-- The candidates of a round and of high rounding are those that the Rust lists, in its order.
 use mathlib.Core.Path.{_≡_, refl}
 use mathlib.Core.Bool.{Bool}
 use mathlib.Core.List.{List}

@@ -1,4 +1,4 @@
--- The rounds of one refinement, by steps of the loops. Assumes nothing.
+-- The rounds of one refinement, by steps of the loops.
 use mathlib.Core.Path.{_≡_, refl}
 use mathlib.Core.Bool.{true, false, cond}
 use mathlib.Core.List.{List}

@@ -1,4 +1,4 @@
--- Demand 3, the rounding: medium and high never pick a pair whose palette error is larger than that of plain rounding of the same pair. Assumes nothing.
+-- Demand 3, the rounding: medium and high never pick a pair whose palette error is larger than that of plain rounding of the same pair.
 use mathlib.Core.Path.{_≡_, refl}
 use mathlib.Core.Logic.{inl, inr}
 use mathlib.Core.Bool.{Bool, false}
@@ -11,7 +11,7 @@ use Rattle.floats.proofs.Order.{lt-irrefl, lt-asym}
 use Rattle.palette.specs.declared.Kind.{Kind}
 use Rattle.palette.specs.PaletteError.{paletteError}
 use Rattle.refine.specs.declared.rounds.Held.{Held}
-use Rattle.refine.specs.declared.options.Quantization.the-variants.{MediumQuality, HighQuality}
+use Rattle.options.specs.declared.Quantization.the-variants.{MediumQuality, HighQuality}
 use Rattle.refine.specs.Rounds.{held, better}
 use Rattle.refine.specs.Refining.{quantizedPair, heldPair, betterPair, otherPair, medium, closerPair, highTo, pairOf, quantizing}
 use Rattle.refine.proofs.Limits.{Better, better-trans, better-better, better-honest, held-honest, Honest}

@@ -11,9 +11,9 @@ use Rattle.floats.specs.declared.Pair.{Pair}
 use Rattle.palette.specs.declared.Kind.{Kind}
 use Rattle.end_points.specs.EndPoints.{quantized}
 use Rattle.refine.specs.declared.rounds.Held.{Held}
-use Rattle.refine.specs.declared.options.Options.{Options}
-use Rattle.refine.specs.declared.options.Quantization.{Quantization}
-use Rattle.refine.specs.declared.options.Quantization.the-variants.{Round, MediumQuality, HighQuality}
+use Rattle.options.specs.declared.Options.{Options}
+use Rattle.options.specs.declared.Quantization.{Quantization}
+use Rattle.options.specs.declared.Quantization.the-variants.{Round, MediumQuality, HighQuality}
 use Rattle.refine.specs.Rounds.{held, better, refined}
 
 -- QUANT_STEP, 1 / 254 + 0.0001: a little over one level of either format

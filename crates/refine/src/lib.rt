@@ -3,7 +3,6 @@ ghost use mathlib.Core.Path.{_≡_};
 ghost use Prim.Native.Nat.{ℕ};
 ghost use Rattle.refine.specs.Refining.{heldPair, betterPair, otherPair, medium as mediumOf, closerPair, highTo, quantizing as quantizingOf, firstStep, leastStep, refinedEnds};
 
-pub mod options;
 pub mod rounds;
 
 use end_points::EndPoints;

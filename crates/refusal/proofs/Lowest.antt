@@ -1,4 +1,4 @@
--- Laws of the lowest refusal that applies. Assumes nothing.
+-- Laws of the lowest refusal that applies.
 use mathlib.Core.Path.{_≡_, refl, sym, ap, subst, _∙_}
 use mathlib.Core.Bool.{Bool, true, false, not, cond}
 use mathlib.Core.List.{List, [], _∷_, _++_}

@@ -1,4 +1,4 @@
--- The first NaN of a list. Assumes nothing.
+-- The first NaN of a list.
 use mathlib.Core.Path.{_≡_, refl, sym, _∙_}
 use mathlib.Core.Bool.{Bool, true, false, cond, _||_}
 use mathlib.Core.List.{List, [], _∷_}

@@ -1,4 +1,4 @@
--- A view that is not refused stands within its tile. Assumes nothing.
+-- A view that is not refused stands within its tile.
 use mathlib.Core.Path.{_≡_}
 use mathlib.Core.List.{List}
 use Prim.Native.Nat.{ℕ, _+_, _≤_}

@@ -4,7 +4,7 @@ ghost use mathlib.Core.List.{[], _∷_};
 ghost use lib.Dec.{ltb};
 ghost use lib.ListN.{length};
 ghost use Rattle.refusal.specs.Refusals.{numberOf, lowest, orMalformed, firstNan, nanCheck, encodeChecks, decodeChecks, errorChecks, resendChecks, tileChecks, viewChecks};
-use refine::options::Options;
+use options::Options;
 
 pub enum Refusal {
     // A side of the tile is 0, over 1,024 or no multiple of 4.

@@ -1,5 +1,4 @@
 -- The values of a pair's palettes lie between the floats of its bytes, but for less than a margin of rounding; of four values, 0 and 1 aside.
--- Assumes nothing.
 use mathlib.Core.Path.{_≡_, refl, ap, _∙_}
 use mathlib.Core.Bool.{Bool, true, false}
 use Prim.Native.Nat.{ℕ, zero, suc, _+_, _-_, _*_, _^_, _≤_, _<_}

@@ -1,5 +1,5 @@
 -- Demand 3, the search: where it applies it writes a covered pair, and no covered pair in either mode has a smaller palette error than the pair
--- written. The errors are finite, so no NaN hides in the comparison. Samples are in 0..1, as entry leaves them, whatever they were. Assumes nothing.
+-- written. The errors are finite, so no NaN hides in the comparison. Samples are in 0..1, as entry leaves them, whatever they were.
 use mathlib.Core.Path.{_≡_, refl, sym, ap, _∙_, subst}
 use mathlib.Core.Logic.{_⊎_, inl, inr, ⊎-elim}
 use mathlib.Core.Bool.{true, false}

@@ -1,5 +1,5 @@
 -- Every pair of the search: one pair is two candidates, what each pair keeps is kept by the loops, of one search or between two, and what one brings
--- about holds in the end. Assumes nothing.
+-- about holds in the end.
 use mathlib.Core.Path.{_≡_, refl}
 use mathlib.Core.Logic.{⊎-elim, dite}
 use mathlib.Core.Bool.{Bool, true, false, cond}

@@ -1,5 +1,4 @@
 -- A pair's floor by its first row: no palette error of the pair is below it, in either mode. Floors of max, raised by it anywhere, are floors.
--- Assumes nothing.
 use mathlib.Core.Path.{_≡_, refl, sym, _∙_, subst}
 use mathlib.Core.Logic.{_⊎_, inl, inr, ⊎-elim, dite}
 use mathlib.Core.Bool.{Bool, true, false, cond, _||_}

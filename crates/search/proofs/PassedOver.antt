@@ -1,5 +1,5 @@
 -- The floors that the search passes pairs over by: no palette error of a pair is below the floor of its min or of its max, in either mode. So where
--- what is held is not above a floor, the pairs of that floor leave it as it is. Assumes nothing.
+-- what is held is not above a floor, the pairs of that floor leave it as it is.
 use mathlib.Core.Path.{_≡_, refl}
 use mathlib.Core.Bool.{Bool, true, false, cond}
 use mathlib.Core.List.{List}

@@ -1,5 +1,5 @@
 -- Where the search starts makes no difference to what it holds in the end, if an error is below that start: until a pair is below it, a search that
--- started at infinity holds nothing below it either, and from that pair on the two hold the same. Assumes nothing.
+-- started at infinity holds nothing below it either, and from that pair on the two hold the same.
 use mathlib.Core.Path.{_≡_, refl, ap, subst}
 use mathlib.Core.Logic.{_⊎_, inl, inr, ⊎-elim}
 use mathlib.Core.Bool.{Bool, true, false, cond}

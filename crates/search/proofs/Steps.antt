@@ -1,4 +1,4 @@
--- The definitions as the code walks through them. Assumes nothing.
+-- The definitions as the code walks through them.
 use mathlib.Core.Path.{_≡_}
 use mathlib.Core.List.{List}
 use Prim.Native.Nat.{ℕ, suc, _+_, _-_, _≤_}

@@ -1,4 +1,4 @@
--- The same index everywhere is how a block of one value is written. Assumes nothing.
+-- The same index everywhere is how a block of one value is written.
 use mathlib.Core.Path.{_≡_, sym, ap}
 use mathlib.Core.Bool.{false}
 use lib.Ieee.{Float, nan}

@@ -1,4 +1,4 @@
--- The definition of the nearest value as the code walks through it. Assumes nothing.
+-- The definition of the nearest value as the code walks through it.
 use mathlib.Core.Path.{_≡_}
 use mathlib.Core.Bool.{Bool, cond}
 use mathlib.Core.List.{List}

@@ -1,4 +1,4 @@
--- Each block of a tile is the block call's on its own sixteen samples. Assumes nothing.
+-- Each block of a tile is the block call's on its own sixteen samples.
 use mathlib.Core.Path.{_≡_, _∙_, ap}
 use mathlib.Core.List.{List, _++_}
 use mathlib.Core.Logic.{⊎-elim}
@@ -9,7 +9,7 @@ use lib.ListN.{length, take, drop, length-drop}
 use lib.Seq.{take-append-le, drop-append-le, drop-append-add, drop-at}
 use lib.Ieee.{Float}
 use Rattle.index_list.specs.Layout.{bytesOf}
-use Rattle.refine.specs.declared.options.Options.{Options}
+use Rattle.options.specs.declared.Options.{Options}
 use Rattle.encode.specs.Encoder.{compressed}
 use Rattle.place.specs.Place.{along, rowLength, blockAt, blockOf}
 use Rattle.tile.specs.Tile.{rowBytes, tileBytes}

@@ -1,4 +1,4 @@
--- Bytes that grow by one lent stretch after the other: the blocks of a row, and the rows of a tile. Assumes nothing.
+-- Bytes that grow by one lent stretch after the other: the blocks of a row, and the rows of a tile.
 use mathlib.Core.Path.{_≡_, refl, sym}
 use mathlib.Core.List.{List, _++_, append-assoc}
 use Prim.Native.Nat.{ℕ, zero, suc, _+_, _*_, _-_}
@@ -10,7 +10,7 @@ use lib.Seq.{take-at, drop-at, drop-drop}
 use lib.Ieee.{Float}
 use borrow.Rule.Slice.PartMut.{putMid}
 use Rattle.index_list.specs.Layout.{bytesOf}
-use Rattle.refine.specs.declared.options.Options.{Options}
+use Rattle.options.specs.declared.Options.{Options}
 use Rattle.encode.specs.Encoder.{compressed}
 use Rattle.place.specs.Place.{along, rowLength, blockOf}
 use Rattle.tile.specs.Tile.{rowBytes, tileBytes}

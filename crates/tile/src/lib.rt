@@ -6,7 +6,7 @@ ghost use Prim.Native.Nat.{_+_, _*_, _≤_};
 ghost use lib.ListN.{length, drop};
 ghost use Rattle.place.specs.Place.{longestSide, along, rowLength};
 ghost use Rattle.tile.specs.Tile.{rowBytes, tileBytes};
-use refine::options::Options;
+use options::Options;
 
 // The eight bytes into the eight that are lent.
 fn put(out: &mut [u8], b: [u8; 8])

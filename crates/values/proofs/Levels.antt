@@ -1,5 +1,5 @@
 -- The floats of the levels, for both formats by one test over all 256 bytes each: they are the fractions rounded once, they grow strictly, and lie in 0..1.
--- A level's byte has that level, and is never -128. Assumes nothing.
+-- A level's byte has that level, and is never -128.
 use mathlib.Core.Path.{_≡_, refl}
 use mathlib.Core.Bool.{Bool, true, false, cond}
 use Prim.Native.Nat.{ℕ, _+_, _<_, _≤_}

@@ -1,4 +1,4 @@
--- Signed bytes: the code's steps to one, and their order, which for the bytes of levels is the levels' order. Assumes nothing.
+-- Signed bytes: the code's steps to one, and their order, which for the bytes of levels is the levels' order.
 use mathlib.Core.Path.{_≡_, refl, sym, ap, _∙_}
 use Prim.Native.Nat.{ℕ, zero, suc, _+_, _-_, _%_, _≤_, _<_}
 use native.Mathlib.Omega.{arith}

@@ -1,4 +1,3 @@
--- `better` meets its contract. Assumes nothing.
 use Rattle.bc4.specs.Calls.{betterOf}
 use borrow.Author.Needs.{needs}
 use Rattle.bc4.proofs.better.Statement.{statement}

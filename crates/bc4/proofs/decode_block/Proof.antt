@@ -1,4 +1,3 @@
--- `decode_block` meets its contract. Assumes nothing.
 use mathlib.Core.Path.{refl, sym, _∙_}
 use Rattle.bc4.specs.Calls.{samplesAfter}
 use Rattle.refusal.proofs.Lowest.{lowest-clear, same-of}

@@ -1,4 +1,4 @@
--- `sixteen` meets its contract: the one block of a tile of width 4. Assumes nothing.
+-- `sixteen` meets its contract: the one block of a tile of width 4.
 use mathlib.Core.Path.{_∙_}
 use native.Mathlib.Omega.{arith}
 use Rattle.place.proofs.Samples.{blockOf-whole}

@@ -1,4 +1,3 @@
--- `exports::bc4_block_view` meets its contract. Assumes nothing.
 use mathlib.Core.Path.{refl, sym, _∙_}
 use Rattle.refusal.proofs.Views.{view-room}
 use borrow.Author.Needs.{needs}

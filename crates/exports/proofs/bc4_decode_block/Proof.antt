@@ -1,4 +1,3 @@
--- `exports::bc4_decode_block` meets its contract. Assumes nothing.
 use borrow.Author.Needs.{needs}
 use Rattle.exports.proofs.bc4_decode_block.Statement.{statement}
 use Rattle.exports.proofs.bc4_decode_block.Tie as tie

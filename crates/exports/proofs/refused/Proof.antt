@@ -1,4 +1,4 @@
--- `exports::refused` meets its contract: no refusal but that of a sample which is NaN has an index. Assumes nothing.
+-- `exports::refused` meets its contract: no refusal but that of a sample which is NaN has an index.
 use mathlib.Core.Path.{_≡_, refl, _∙_}
 use mathlib.Core.List.{[], _∷_}
 use Prim.Native.Nat.{ℕ}

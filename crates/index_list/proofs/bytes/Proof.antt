@@ -1,4 +1,4 @@
--- `index_list::bytes` meets its contract: byte 0 is the only one that is not shifted. Assumes nothing.
+-- `index_list::bytes` meets its contract: byte 0 is the only one that is not shifted.
 use native.Mathlib.Nat.{div-one}
 use borrow.Author.Needs.{needs}
 use Rattle.index_list.proofs.bytes.Statement.{statement}

@@ -1,4 +1,3 @@
--- `from_bytes` meets its contract. Assumes nothing.
 use native.Mathlib.Omega.{arith}
 use Rattle.index_list.proofs.Laws.{from-eight}
 use borrow.Author.Needs.{needs}

@@ -1,4 +1,3 @@
--- `lines::answer_to` meets its contract. Assumes nothing.
 use borrow.Author.Needs.{needs}
 use Rattle.lines.proofs.answer_to.Statement.{statement}
 use Rattle.lines.proofs.answer_to.Tie as tie

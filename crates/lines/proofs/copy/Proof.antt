@@ -1,4 +1,4 @@
--- `lines::copy` meets its contract: after i turns i bytes are pasted. Assumes nothing.
+-- `lines::copy` meets its contract: after i turns i bytes are pasted.
 use mathlib.Core.Path.{_≡_, refl, sym, ap, _∙_}
 use mathlib.Core.List.{List}
 use Prim.Native.Nat.{ℕ, _+_, _-_, _≤_, _<_, zero-le}

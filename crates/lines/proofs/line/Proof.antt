@@ -1,4 +1,4 @@
--- `lines::line` meets its contract, case by case. Assumes nothing.
+-- `lines::line` meets its contract, case by case.
 use Rattle.refusal.proofs.Lowest.{number-small}
 use Rattle.lines.specs.Answers.{lineOf}
 use borrow.Author.Needs.{needs}

@@ -1,4 +1,4 @@
--- `lines::lines` meets its contract: after i turns the lines of the first i records stand at the start of `out`. Assumes nothing.
+-- `lines::lines` meets its contract: after i turns the lines of the first i records stand at the start of `out`.
 use mathlib.Core.Path.{_≡_, refl, ap, _∙_}
 use Prim.Native.Nat.{_/_, _+_, _*_, _-_, _≤_}
 use native.Mathlib.Numerals.{add-one}

@@ -1,4 +1,4 @@
--- `lines::text` meets its contract: the lines, and `short` after them where a partial record is left. Assumes nothing.
+-- `lines::text` meets its contract: the lines, and `short` after them where a partial record is left.
 use mathlib.Core.List.{append-nil}
 use Prim.Native.Nat.{_/_}
 use native.Mathlib.Omega.{arith}

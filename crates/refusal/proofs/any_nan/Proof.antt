@@ -1,4 +1,4 @@
--- `refusal::any_nan` meets its contract: the flag says whether one was found among those passed. Assumes nothing.
+-- `refusal::any_nan` meets its contract: the flag says whether one was found among those passed.
 use Prim.Native.Nat.{_-_, _≤_}
 use lib.ListN.{length}
 use borrow.Author.Needs.{needs}

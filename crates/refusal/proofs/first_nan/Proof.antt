@@ -1,4 +1,4 @@
--- `refusal::first_nan` meets its contract: the samples that were passed are none. Assumes nothing.
+-- `refusal::first_nan` meets its contract: the samples that were passed are none.
 use Prim.Native.Nat.{_-_, _≤_}
 use lib.ListN.{length}
 use borrow.Author.Needs.{needs}

@@ -1,4 +1,3 @@
--- `refusal::no_nan` meets its contract. Assumes nothing.
 use borrow.Author.Needs.{needs}
 use Rattle.refusal.specs.Refusals.{lowest}
 use Rattle.refusal.proofs.no_nan.Statement.{statement}

@@ -1,4 +1,4 @@
--- `replay::differs` meets its contract, case by case. Assumes nothing.
+-- `replay::differs` meets its contract, case by case.
 use native.Mathlib.Omega.{arith}
 use lib.ListN.{length-take}
 use Rattle.replay.specs.Entry.{unlike, differsOf}

@@ -1,4 +1,4 @@
--- `replay::entries` meets its contract: after i turns d has counted which of the first i entries differ. Assumes nothing.
+-- `replay::entries` meets its contract: after i turns d has counted which of the first i entries differ.
 use mathlib.Core.Logic.{⊎-elim}
 use mathlib.Core.Path.{_≡_, ap}
 use Prim.Native.Nat.{ℕ, _+_, _*_, _/_, _-_, _≤_}

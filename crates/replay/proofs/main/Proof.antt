@@ -1,4 +1,4 @@
--- `replay::main` is safe and ends: each turn adds at most 860 records, and the turns are counted down. Assumes nothing.
+-- `replay::main` is safe and ends: each turn adds at most 860 records, and the turns are counted down.
 use mathlib.Core.Path.{_≡_}
 use mathlib.Core.Bool.{Bool, true, false, cond}
 use mathlib.Core.List.{List}

@@ -1,4 +1,4 @@
--- `stream::fill` reads to the end of its buffer or of the input. Assumes nothing.
+-- `stream::fill` reads to the end of its buffer or of the input.
 use mathlib.Core.Path.{_≡_}
 use Prim.Native.Nat.{_≤_, _-_}
 use lib.ListN.{length}

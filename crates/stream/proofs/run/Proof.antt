@@ -1,4 +1,4 @@
--- `stream::run` is safe and ends: 960 records have room for 960 of the longest lines, and the turns are counted down. Assumes nothing.
+-- `stream::run` is safe and ends: 960 records have room for 960 of the longest lines, and the turns are counted down.
 use mathlib.Core.Path.{_≡_}
 use native.Mathlib.Omega.{arith}
 use lib.ListN.{length, length-take}

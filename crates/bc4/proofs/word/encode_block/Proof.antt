@@ -1,4 +1,3 @@
--- `word::encode_block` meets its contract. Assumes nothing.
 use Rattle.refusal.specs.Refusals.{encodeChecks}
 use Rattle.bc4.specs.Calls.{encodedOn}
 use Rattle.refusal.proofs.Lowest.{malformed-last, formed-last}

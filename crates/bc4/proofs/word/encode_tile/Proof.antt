@@ -1,4 +1,3 @@
--- `word::encode_tile` meets its contract. Assumes nothing.
 use mathlib.Core.Path.{refl}
 use lib.ListN.{length}
 use Rattle.refusal.specs.Refusals.{tileChecks}

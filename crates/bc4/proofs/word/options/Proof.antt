@@ -1,4 +1,4 @@
--- `word::options` meets its contract: bit 0 is the only one that is not shifted. Assumes nothing.
+-- `word::options` meets its contract: bit 0 is the only one that is not shifted.
 use native.Mathlib.Nat.{div-one}
 use Rattle.bc4.specs.Word.{optionsOf}
 use Rattle.bc4.proofs.word.options.Statement.{statement}

@@ -1,4 +1,3 @@
--- `word::quality_of` meets its contract. Assumes nothing.
 use borrow.Author.Tests.{eq-eqb, ne-eqb}
 use Rattle.bc4.proofs.word.quality_of.Statement.{statement}
 use Rattle.bc4.proofs.word.quality_of.Tie as tie

@@ -1,4 +1,3 @@
--- `word::read` meets its contract. Assumes nothing.
 use Rattle.bc4.specs.Word.{wordOf}
 use borrow.Author.Needs.{needs}
 use Rattle.bc4.proofs.word.read.Statement.{statement}

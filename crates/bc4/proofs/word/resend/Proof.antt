@@ -1,4 +1,3 @@
--- `word::resend` meets its contract. Assumes nothing.
 use Rattle.refusal.specs.Refusals.{resendChecks}
 use Rattle.bc4.specs.Calls.{resentOn}
 use Rattle.refusal.proofs.Lowest.{malformed-last, formed-last}

@@ -1,4 +1,4 @@
--- `calls::given::fill_samples` is safe and ends. Assumes nothing.
+-- `calls::given::fill_samples` is safe and ends.
 use mathlib.Core.Path.{_≡_}
 use Prim.Native.Nat.{_-_, _≤_}
 use lib.ListN.{length}

@@ -1,4 +1,4 @@
--- `calls::show::float` is safe and ends: a float that equals itself is no NaN. Assumes nothing.
+-- `calls::show::float` is safe and ends: a float that equals itself is no NaN.
 use mathlib.Core.Path.{sym, _∙_}
 use Rattle.floats.proofs.Order.{ne-self}
 use borrow.Author.Needs.{needs}

@@ -1,4 +1,4 @@
--- `calls::show::floats` is safe and ends. Assumes nothing.
+-- `calls::show::floats` is safe and ends.
 use Prim.Native.Nat.{_-_, _≤_}
 use borrow.Author.Needs.{needs}
 use Rattle.calls.proofs.show.floats.Statement.{statement}

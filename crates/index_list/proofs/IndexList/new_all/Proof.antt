@@ -1,4 +1,4 @@
--- `index_list::IndexList::new_all` meets its contract: both sides are a multiple of the value, with the same factor. Assumes nothing.
+-- `index_list::IndexList::new_all` meets its contract: both sides are a multiple of the value, with the same factor.
 use native.Mathlib.Omega.{arith}
 use borrow.Author.Needs.{needs}
 use Rattle.index_list.specs.Indexes.{filledTo}

@@ -1,4 +1,4 @@
--- `index_list::IndexList::set` meets its contract: nothing is shifted out, and the sum fits since the three bits were 0. Assumes nothing.
+-- `index_list::IndexList::set` meets its contract: nothing is shifted out, and the sum fits since the three bits were 0.
 use Prim.Native.Nat.{_*_}
 use native.Mathlib.Omega.{arith}
 use lib.Pow.{shl-exact}

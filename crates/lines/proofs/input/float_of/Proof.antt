@@ -1,4 +1,4 @@
--- `lines::input::float_of` meets its contract: a pattern is a NaN's if its magnitude is above infinity's. Assumes nothing.
+-- `lines::input::float_of` meets its contract: a pattern is a NaN's if its magnitude is above infinity's.
 use mathlib.Core.Path.{_≡_, sym}
 use Prim.Native.Nat.{ℕ, _/_, _%_, _^_, _<_}
 use native.Mathlib.Omega.{arith}

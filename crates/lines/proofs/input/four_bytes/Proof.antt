@@ -1,4 +1,3 @@
--- `lines::input::four_bytes` meets its contract. Assumes nothing.
 use native.Mathlib.Omega.{arith}
 use Rattle.lines.specs.Input.{fourBytes}
 use borrow.Author.Needs.{needs}

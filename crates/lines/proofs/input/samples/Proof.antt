@@ -1,4 +1,4 @@
--- `lines::input::samples` meets its contract: the array is filled from its start. Assumes nothing.
+-- `lines::input::samples` meets its contract: the array is filled from its start.
 use mathlib.Core.Path.{refl, ap, _∙_}
 use Prim.Native.Nat.{ℕ, _≤_, _-_}
 use native.Mathlib.Omega.{arith}

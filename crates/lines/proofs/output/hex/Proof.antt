@@ -1,4 +1,3 @@
--- `lines::output::hex` meets its contract. Assumes nothing.
 use mathlib.Core.Path.{refl}
 use Rattle.lines.specs.Output.{hexLine}
 use borrow.Author.Needs.{needs}

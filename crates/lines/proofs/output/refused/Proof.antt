@@ -1,4 +1,3 @@
--- `lines::output::refused` meets its contract. Assumes nothing.
 use mathlib.Core.Path.{refl}
 use Rattle.lines.specs.Output.{refusedLine}
 use borrow.Author.Needs.{needs}
