@@ -18,7 +18,7 @@ use Rattle.bc4.specs.declared.Encoded.{Encoded}
 use Rattle.bc4.specs.declared.Encoded.the-variants.{Block, Refused as NotEncoded}
 use Rattle.bc4.specs.declared.Scored.{Scored}
 use Rattle.bc4.specs.declared.Scored.the-variants.{Error, Refused as NotScored}
-use Rattle.bc4.specs.declared.Held.{Held}
+use Rattle.bc4.specs.declared.Kept.{Kept}
 use Rattle.bc4.specs.declared.Resent.{Resent}
 use Rattle.bc4.specs.declared.Resent.the-variants.{Block as Answered, Refused as NotResent}
 use Rattle.bc4.specs.declared.Tiled.{Tiled}
@@ -52,22 +52,22 @@ encodeAnswer samples o = encodedOn (lowest (encodeChecks samples)) samples o
 
 -- ---- decode: the samples that the lent array holds after the call
 unfoldable pub samplesAfter : Checked → Bool → List ℕ → List Float → List Float
-samplesAfter Passed snorm encoded before = decoded snorm (fromBytes encoded)
+samplesAfter Passed snorm encoded before = decoded (fromBytes encoded) snorm
 samplesAfter (Refused q) snorm encoded before = before
 
 -- ---- block error
 unfoldable pub scoredOn : Checked → List Float → List ℕ → Bool → Scored
-scoredOn Passed samples encoded snorm = Error (blockError snorm samples (fromBytes encoded))
+scoredOn Passed samples encoded snorm = Error (blockError samples (fromBytes encoded) snorm)
 scoredOn (Refused q) samples encoded snorm = NotScored q
 
 abbrev pub errorAnswer : List Float → List ℕ → Bool → Scored
 errorAnswer samples encoded snorm = scoredOn (lowest (errorChecks samples encoded)) samples encoded snorm
 
 -- ---- resend: the fresh bytes exactly when their block error is strictly below that of the held ones
-unfoldable pub betterOf : List Float → ℕ → Options → Held
+unfoldable pub betterOf : List Float → ℕ → Options → Kept
 betterOf samples held o =
     let fresh = compressed samples o in
-    cond (lt (blockError (o .snorm) samples fresh) (blockError (o .snorm) samples held)) (record { block = fresh; fresh = true })
+    cond (lt (blockError samples fresh (o .snorm)) (blockError samples held (o .snorm))) (record { block = fresh; fresh = true })
     (record { block = held; fresh = false })
 
 unfoldable pub resentOn : Checked → List Float → List ℕ → Options → Resent

@@ -25,13 +25,13 @@ pub enum Scored {
 }
 
 // The bytes to hold from now on, and whether they are the fresh ones.
-pub struct Held {
+pub struct Kept {
     pub block: u64,
     pub fresh: bool,
 }
 
 pub enum Resent {
-    Block(Held),
+    Block(Kept),
     Refused(Refusal),
 }
 
@@ -111,19 +111,19 @@ pub fn resend(samples: &[f32], held: &[u8], o: Options) -> Resent
     }
 }
 
-fn better(b: &[f32; 16], held: u64, o: Options) -> Held
+fn better(b: &[f32; 16], held: u64, o: Options) -> Kept
     ensures { λ r. ⌜ r ≡ betterOf (now (b .entry)) held o ⌝ }
 {
     let fresh = encode::compress_bc4_block(b, o);
     let fresh_error = decode::block_error(b, fresh, o.snorm);
     let held_error = decode::block_error(b, held, o.snorm);
     if fresh_error < held_error {
-        return Held {
+        return Kept {
             block: fresh,
             fresh: true,
         };
     }
-    Held {
+    Kept {
         block: held,
         fresh: false,
     }

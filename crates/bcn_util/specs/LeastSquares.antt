@@ -21,8 +21,8 @@ unfoldable pub complement : List Float → List Float
 complement w = perPixel (λ i. f1 ⊖ pixelAt w i)
 
 -- f32::EPSILON, 2 ^ -23
-abbrev pub epsilon : Float
-epsilon = bits 0x3400_0000
+abbrev pub f32Epsilon : Float
+f32Epsilon = bits 0x3400_0000
 
 -- D = (a b, b c) turned round, unless its determinant is too small: then all weights are the same
 unfoldable pub fromD : Float → Float → Float → Inverse
@@ -32,7 +32,7 @@ fromD a b c =
     let e00 = c ⊗ rep in
     let e01 = neg b ⊗ rep in
     let e11 = a ⊗ rep in
-    cond (lt (absOf det) epsilon) TooSmall (Matrix (record { e01 = e01; e11 = e11; «e00_01» = e00 ⊖ e01; «e10_11» = e01 ⊖ e11 }))
+    cond (lt (absOf det) f32Epsilon) TooSmall (Matrix (record { e01 = e01; e11 = e11; «e00_01» = e00 ⊖ e01; «e10_11» = e01 ⊖ e11 }))
 
 -- the matrix that makes both ends the mean, whatever the weights
 abbrev pub meanMatrix : WeightMatrix

@@ -35,7 +35,7 @@ pub const WEIGHTS: [f32; 20] = [
 ];
 
 // Where the block has no pixel j nothing is given.
-fn give(m: &mut [f32; 16], there: bool, j: usize, v: f32)
+fn give(there: bool, m: &mut [f32; 16], j: usize, v: f32)
     requires { ⌜ (there ≡ true → j < 16) ⌝ }
     ensures { λ r. ⌜ now (m .exit) ≡ given there (now (m .entry)) j v ⌝ }
 {
@@ -51,13 +51,13 @@ pub fn diffuse(m: &mut [f32; 16], w: &[f32; 20], i: usize, error: f32)
 {
     let x = i % 4;
     if i < 12 {
-        give(m, x < 3, i + 1, error * w[4 * x]);
-        give(m, 0 < x, i + 3, error * w[4 * x + 1]);
-        give(m, true, i + 4, error * w[4 * x + 2]);
-        give(m, x < 3, i + 5, error * w[4 * x + 3]);
+        give(x < 3, m, i + 1, error * w[4 * x]);
+        give(0 < x, m, i + 3, error * w[4 * x + 1]);
+        give(true, m, i + 4, error * w[4 * x + 2]);
+        give(x < 3, m, i + 5, error * w[4 * x + 3]);
         return;
     }
-    give(m, x < 3, i + 1, error * w[16]);
+    give(x < 3, m, i + 1, error * w[16]);
 }
 
 // The error goes without its sign's being cleared: it is only squared.

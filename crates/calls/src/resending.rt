@@ -1,14 +1,14 @@
 // Resend: refusals 2, 3, 5 and 7.
 use crate::given;
 use crate::show;
-use bc4::Held;
+use bc4::Kept;
 use bc4::Options;
 use bc4::Resent;
 use given::NONE;
 use given::Sixteen;
 
 // The bytes to hold, after a word for the flag.
-fn held_or_fresh(h: Held) {
+fn held_or_fresh(h: Kept) {
     if h.fresh {
         show::text(b"fresh ");
     } else {

@@ -18,19 +18,19 @@ use Rattle.coding.specs.declared.Coded.{Coded}
 abbrev pub indexedBy : (Float → Closest) → List Float → Bool → Indexed
 indexedBy rule b dither = cond dither (blockDither rule b) (blockClosest rule b)
 
-abbrev pub written : EndPoints → Indexed → Coded
-written e x = record { bytes = packed (e .c0) (e .c1) (x .indexes .«data»); error = x .error }
+abbrev pub laidOut : EndPoints → Indexed → Coded
+laidOut e x = record { bytes = packed (e .c0) (e .c1) (x .indexes .«data»); error = x .error }
 
 -- six values, from endpoints and from the floats that they are made of
 unfoldable pub ended6 : List Float → Bool → EndPoints → Coded
-ended6 b dither e = written e (indexedBy (closest6 (inter6Palette (e .«c0_f») (e .«c1_f»))) b dither)
+ended6 b dither e = laidOut e (indexedBy (closest6 (inter6Palette (e .«c0_f») (e .«c1_f»))) b dither)
 
 unfoldable pub coded6 : List Float → Bool → Bool → Pair → Coded
-coded6 b snorm dither p = ended6 b dither (inter6 snorm (p .0) (p .1))
+coded6 b snorm dither p = ended6 b dither (inter6 (p .0) (p .1) snorm)
 
 -- four values
 unfoldable pub ended4 : List Float → Bool → EndPoints → Coded
-ended4 b dither e = written e (indexedBy (closest4 (colors (e .«c0_f») (e .«c1_f»))) b dither)
+ended4 b dither e = laidOut e (indexedBy (closest4 (colors (e .«c0_f») (e .«c1_f»))) b dither)
 
 unfoldable pub coded4 : List Float → Bool → Bool → Pair → Coded
-coded4 b snorm dither p = ended4 b dither (inter4 snorm (p .0) (p .1))
+coded4 b snorm dither p = ended4 b dither (inter4 (p .0) (p .1) snorm)

@@ -1,7 +1,7 @@
 // What both compressions end with: endpoints, palette, indexes, bytes.
 ghost use mathlib.Core.Path.{_≡_};
 ghost use Rattle.palette.specs.Closest.{closest6, closest4};
-ghost use Rattle.coding.specs.Coding.{indexedBy, written as writtenOf, ended6 as ended6Of, coded6 as coded6Of, ended4 as ended4Of, coded4 as coded4Of};
+ghost use Rattle.coding.specs.Coding.{indexedBy, laidOut, ended6 as ended6Of, coded6 as coded6Of, ended4 as ended4Of, coded4 as coded4Of};
 use end_points::EndPoints;
 use floats::Pair;
 use palette::Indexed;
@@ -14,8 +14,8 @@ pub struct Coded {
     pub error: f32,
 }
 
-fn written(e: EndPoints, x: Indexed) -> Coded
-    ensures { λ r. ⌜ r ≡ writtenOf e x ⌝ }
+fn laid_out(e: EndPoints, x: Indexed) -> Coded
+    ensures { λ r. ⌜ r ≡ laidOut e x ⌝ }
 {
     let list = x.indexes;
     Coded {
@@ -45,7 +45,7 @@ fn indexed4(p: Inter4Palette, b: &[f32; 16], dither: bool) -> Indexed
 pub fn ended6(b: &[f32; 16], dither: bool, e: EndPoints) -> Coded
     ensures { λ r. ⌜ r ≡ ended6Of (now (b .entry)) dither e ⌝ }
 {
-    written(e, indexed6(Inter6Palette::from_endpoints(e), b, dither))
+    laid_out(e, indexed6(Inter6Palette::from_endpoints(e), b, dither))
 }
 
 pub fn coded6(b: &[f32; 16], snorm: bool, dither: bool, ends: Pair) -> Coded
@@ -57,7 +57,7 @@ pub fn coded6(b: &[f32; 16], snorm: bool, dither: bool, ends: Pair) -> Coded
 pub fn ended4(b: &[f32; 16], dither: bool, e: EndPoints) -> Coded
     ensures { λ r. ⌜ r ≡ ended4Of (now (b .entry)) dither e ⌝ }
 {
-    written(e, indexed4(Inter4Palette::from_endpoints(e), b, dither))
+    laid_out(e, indexed4(Inter4Palette::from_endpoints(e), b, dither))
 }
 
 pub fn coded4(b: &[f32; 16], snorm: bool, dither: bool, ends: Pair) -> Coded

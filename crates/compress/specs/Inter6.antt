@@ -13,8 +13,8 @@ use Rattle.fit.specs.Fit.{fitted}
 use Rattle.coding.specs.declared.Coded.{Coded}
 use Rattle.coding.specs.Coding.{coded6}
 
-unfoldable pub compressedFrom : List Float → Options → Pair → Coded
-compressedFrom b o p = coded6 b (o .snorm) (o .dither) (refinedEnds Six b o (fitted b (fitted b p)))
+unfoldable pub compressedFrom : List Float → Pair → Options → Coded
+compressedFrom b p o = coded6 b (o .snorm) (o .dither) (refinedEnds Six b (fitted b (fitted b p)) o)
 
 -- The smallest and largest, 0.95 of the way from the mean, to lessen the weight of outliers.
 abbrev pub nudged : Float → Float → Float
@@ -35,8 +35,8 @@ five p =
 abbrev pub smaller : Coded → Coded → Coded
 smaller best next = cond (lt (next .error) (best .error)) next best
 
-unfoldable pub compressInter6 : List Float → Options → Pair → Coded
-compressInter6 b o p =
+unfoldable pub compressInter6 : List Float → Pair → Options → Coded
+compressInter6 b p o =
     let near = nudgedPair b p in
-    let best = compressedFrom b o near in
-    cond (o .«size_variations») (smaller best (compressedFrom b o (five near))) best
+    let best = compressedFrom b near o in
+    cond (o .«size_variations») (smaller best (compressedFrom b (five near) o)) best

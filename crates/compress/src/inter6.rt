@@ -8,7 +8,7 @@ use options::Options;
 
 // compress_inter6_impl
 fn compressed_from(b: &[f32; 16], p: Pair, o: Options) -> Coded
-    ensures { λ r. ⌜ r ≡ compressedFrom (now (b .entry)) o p ⌝ }
+    ensures { λ r. ⌜ r ≡ compressedFrom (now (b .entry)) p o ⌝ }
 {
     let fitted = fit::fitted_twice(b, p);
     let ends = refine::refine_endpoints(Kind::Six, b, fitted.0, fitted.1, o);
@@ -50,7 +50,7 @@ fn smaller(best: Coded, next: Coded) -> Coded
 }
 
 pub fn compress_inter6(b: &[f32; 16], p: Pair, o: Options) -> Coded
-    ensures { λ r. ⌜ r ≡ compressInter6 (now (b .entry)) o p ⌝ }
+    ensures { λ r. ⌜ r ≡ compressInter6 (now (b .entry)) p o ⌝ }
 {
     let near = nudged_pair(b, p);
     let best = compressed_from(b, near, o);

@@ -136,18 +136,18 @@ module _ (snorm : Bool) (c0 c1 k : ℕ) (H0 : c0 < 256) (H1 : c1 < 256) (K : k <
   d = steps snorm
 
   abbrev n0 : ℕ
-  n0 = levelOf snorm c0
+  n0 = levelOf c0 snorm
 
   abbrev n1 : ℕ
-  n1 = levelOf snorm c1
+  n1 = levelOf c1 snorm
 
   abbrev x : Float
-  x = valueOf snorm c0
+  x = valueOf c0 snorm
 
   abbrev y : Float
-  y = valueOf snorm c1
+  y = valueOf c1 snorm
 
-  pub six-at : isSix snorm c0 c1 ≡ true → Bounded (entry (sixValues x y) k) (partsOf 7 n0 n1 k) (7 * d)
+  pub six-at : isSix c0 c1 snorm ≡ true → Bounded (entry (sixValues x y) k) (partsOf 7 n0 n1 k) (7 * d)
   six-at e =
       let X = end-at snorm c0 H0 in
       let Y = end-at snorm c1 H1 in
@@ -155,9 +155,9 @@ module _ (snorm : Bool) (c0 c1 k : ℕ) (H0 : c0 < 256) (H1 : c1 < 256) (K : k <
 
   pub value-bounded : Bounded (valueAt snorm c0 c1 k) (exactNum snorm c0 c1 k) (exactDen snorm c0 c1)
   unfolding tableOf exactNum exactDen
-  value-bounded = go (isSix snorm c0 c1) refl
+  value-bounded = go (isSix c0 c1 snorm) refl
     where
-      go : (six : Bool) → isSix snorm c0 c1 ≡ six
+      go : (six : Bool) → isSix c0 c1 snorm ≡ six
           → Bounded (entry (cond six (sixValues x y) (colors x y)) k) (cond six (partsOf 7 n0 n1 k) (exactFour d n0 n1 k)) (cond six 7 5 * d)
       go true e = six-at e
       go false e = four-bounded d n0 n1 x y (end-at snorm c0 H0) (end-at snorm c1 H1) k K
@@ -183,6 +183,6 @@ value-close snorm c0 c1 k h0 h1 h = close (valueAt snorm c0 c1 k) (exactNum snor
 
 -- Each sample of a block is.
 pub decoded-close : (snorm : Bool) (n i : ℕ) → i < 16
-    → Close (pixelAt (decoded snorm n) i) (exactNum snorm (byteAt n 0) (byteAt n 1) (blockIndex n i)) (exactDen snorm (byteAt n 0) (byteAt n 1))
+    → Close (pixelAt (decoded n snorm) i) (exactNum snorm (byteAt n 0) (byteAt n 1) (blockIndex n i)) (exactDen snorm (byteAt n 0) (byteAt n 1))
 decoded-close snorm n i h =
     rw (decoded-at snorm n i h) (value-close snorm (byteAt n 0) (byteAt n 1) (blockIndex n i) (byte-lt n 0) (byte-lt n 1) (index-lt n i))

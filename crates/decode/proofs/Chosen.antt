@@ -29,10 +29,10 @@ units-plain (fin s m e) r u = u .0
 
 module _ (snorm : Bool) (c0 c1 : ℕ) (H0 : c0 < 256) (H1 : c1 < 256) where
   abbrev x : Float
-  x = valueOf snorm c0
+  x = valueOf c0 snorm
 
   abbrev y : Float
-  y = valueOf snorm c1
+  y = valueOf c1 snorm
 
   -- ---- six values, by the sevenths that an index stands for; index 0 is c0 itself, and no sevenths are c1
   none : blended (inter6Palette x y) 0 ≡ y
@@ -53,7 +53,7 @@ module _ (snorm : Bool) (c0 c1 : ℕ) (H0 : c0 < 256) (H1 : c1 < 256) where
   six-sevenths (suc (suc (suc (suc (suc (suc (suc (suc k)))))))) h = absurd (omega arith)
 
   -- the value that `closest` of six values answers, and c0 at index 0
-  pub six-chosen : isSix snorm c0 c1 ≡ true → (v : Float)
+  pub six-chosen : isSix c0 c1 snorm ≡ true → (v : Float)
       → let k = closest6 (inter6Palette x y) v in
       valueAt snorm c0 c1 (k .index) ≡ cond (eqb (k .index) 0) x (k .value)
   unfolding tableOf
@@ -62,22 +62,22 @@ module _ (snorm : Bool) (c0 c1 : ℕ) (H0 : c0 < 256) (H1 : c1 < 256) where
       let k = closest6 p v in
       rw six (six-sevenths (k .index) (closest6-lt p v) ∙ ap (λ (z : Float). cond (eqb (k .index) 0) x z) (sym (closest6-value p v)))
 
-  pub four-chosen : isSix snorm c0 c1 ≡ false → (v : Float) → valueAt snorm c0 c1 (closest4 (colors x y) v .index) ≡ closest4 (colors x y) v .value
+  pub four-chosen : isSix c0 c1 snorm ≡ false → (v : Float) → valueAt snorm c0 c1 (closest4 (colors x y) v .index) ≡ closest4 (colors x y) v .value
   unfolding tableOf
   four-chosen four v = rw four (sym (closest4-value (colors x y) v))
 
   -- index 0 is c0 in either mode
   pub first-value : valueAt snorm c0 c1 0 ≡ x
   unfolding tableOf sixValues colors
-  first-value = go (isSix snorm c0 c1)
+  first-value = go (isSix c0 c1 snorm)
     where
-      go : (six : Bool) → entry (eightOf six x y) 0 ≡ x
+      go : (six : Bool) → entry (eightOf x y six) 0 ≡ x
       go true = refl
       go false = refl
 
   -- ---- a block that was laid out
   pub packed-decoded : (f : ℕ → ℕ) → ((k : ℕ) → k < 16 → f k < 8) → (i : ℕ) → i < 16
-      → pixelAt (decoded snorm (packed c0 c1 (filledTo f 16))) i ≡ valueAt snorm c0 c1 (f i)
+      → pixelAt (decoded (packed c0 c1 (filledTo f 16)) snorm) i ≡ valueAt snorm c0 c1 (f i)
   packed-decoded f small i h =
       let ends = packed-ends c0 c1 (filledTo f 16) H0 H1 in
       decoded-at snorm (packed c0 c1 (filledTo f 16)) i h ∙ rw (ends .0, ends .1, packed-index c0 c1 f H0 H1 small i h)

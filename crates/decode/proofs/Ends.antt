@@ -51,11 +51,11 @@ steps-few true = lit≤ tt
 steps-few false = lit≤ tt
 
 abbrev pub EndOf : Bool → ℕ → Type 0
-EndOf snorm b = End (valueOf snorm b) (steps snorm) (levelOf snorm b)
+EndOf snorm b = End (valueOf b snorm) (steps snorm) (levelOf b snorm)
 
 pub end-at : (snorm : Bool) (b : ℕ) → b < 256 → EndOf snorm b
 unfolding levelValue
-end-at snorm b h = end-of (steps snorm) (levelOf snorm b) (steps-pos snorm) (le-trans (steps-few snorm) (lit≤ tt)) (level-le snorm b h)
+end-at snorm b h = end-of (steps snorm) (levelOf b snorm) (steps-pos snorm) (le-trans (steps-few snorm) (lit≤ tt)) (level-le snorm b h)
 
 -- ---- order: a larger level has a larger float, for at most 2 ^ 24 steps
 apart : (t d a b n0 n1 : ℕ) → d ≤ 16777216 → n1 < n0 → Off (d * a) (n0 * (67108864 * t)) (d * (2 * t)) → Off (d * b) (n1 * (67108864 * t)) (d * (2 * t)) → d * b ≤ d * a
@@ -68,19 +68,19 @@ apart t d a b n0 n1 D h o p =
     let z : d * t ≤ 16777216 * t = mul-le-mul-right t D in
     omega arith
 
-pub ends-order : (snorm : Bool) (m n : ℕ) → m ≤ n → (X : End (levelValue snorm n) (steps snorm) n) (Y : End (levelValue snorm m) (steps snorm) m) → Y .near .r ≤ X .near .r
+pub ends-order : (snorm : Bool) (m n : ℕ) → m ≤ n → (X : End (levelValue n snorm) (steps snorm) n) (Y : End (levelValue m snorm) (steps snorm) m) → Y .near .r ≤ X .near .r
 ends-order snorm m n h X Y =
     elim (eq-or-lt-of-le h) [
       | inl e ↦
-          le-of-eq (value-same (levelValue snorm n) false false (Y .near .r) (X .near .r) (2 ^ 149)
-          (subst (λ (k : ℕ). Units (levelValue snorm k) (Y .near .r)) e (Y .near .val)) (X .near .val) .1)
+          le-of-eq (value-same (levelValue n snorm) false false (Y .near .r) (X .near .r) (2 ^ 149)
+          (subst (λ (k : ℕ). Units (levelValue k snorm) (Y .near .r)) e (Y .near .val)) (X .near .val) .1)
       | inr l ↦
           le-of-mul-le-mul-left
           (apart (2 ^ 123) (steps snorm) (X .near .r) (Y .near .r) n m (le-trans (steps-few snorm) (lit≤ tt)) l (X .near .off) (Y .near .off)) (steps-pos snorm)
     ]
 
 -- the lower of two bytes has no higher level, and not the highest one
-pub below-level : (snorm : Bool) (b c : ℕ) → b < 256 → c < 256 → byteBelow snorm b c ≡ true → (levelOf snorm b ≤ levelOf snorm c) × (levelOf snorm b < steps snorm)
+pub below-level : (snorm : Bool) (b c : ℕ) → b < 256 → c < 256 → byteBelow b c snorm ≡ true → (levelOf b snorm ≤ levelOf c snorm) × (levelOf b snorm < steps snorm)
 below-level true b c B C h =
     let l : (b + 128) % 256 < (c + 128) % 256 = ltb→lt ((b + 128) % 256) ((c + 128) % 256) (so (sym (signed-order b c B C) ∙ h)) in
     (omega arith, omega arith)

@@ -39,6 +39,6 @@ errorTo-within s v u (suc k) h =
     few : (k : ℕ) → suc k ≤ 16 → 4 * k + 4 ≤ 16777216
     few k h = omega arith
 
-pub blockError-within : (snorm : Bool) (s : List Float) (n : ℕ) → Within 64 (blockError snorm s n)
+pub blockError-within : (snorm : Bool) (s : List Float) (n : ℕ) → Within 64 (blockError s n snorm)
 unfolding blockError
-blockError-within snorm s n = errorTo-within s (decoded snorm n) (decoded-unit snorm n) 16 (lit≤ tt)
+blockError-within snorm s n = errorTo-within s (decoded n snorm) (decoded-unit snorm n) 16 (lit≤ tt)

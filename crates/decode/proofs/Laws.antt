@@ -23,14 +23,14 @@ pub errorTo-more : (s v : List Float) (k : ℕ) → errorTo s v (k + 1) ≡ erro
 unfolding errorTo
 errorTo-more s v k = rw add-one
 
-pub decoded-at : (snorm : Bool) (n i : ℕ) → i < 16 → pixelAt (decoded snorm n) i ≡ sampleAt snorm n i
+pub decoded-at : (snorm : Bool) (n i : ℕ) → i < 16 → pixelAt (decoded n snorm) i ≡ sampleAt snorm n i
 unfolding decoded
 decoded-at snorm n i h = getD-tabulate (sampleAt snorm n) nan 16 i h
 
 -- What is picked of the eight values of a block's two levels, as floats, are its samples.
-pub picked-decoded : (snorm : Bool) (n l0 l1 : ℕ) (e eight : List Float) (six : Bool) → l0 ≡ levelOf snorm (n % 256) → l1 ≡ levelOf snorm (n / 2 ^ 8 % 256)
-    → e ≡ levelValue snorm l0 ∷ levelValue snorm l1 ∷ [] → six ≡ isSix snorm (n % 256) (n / 2 ^ 8 % 256) → eight ≡ eightOf six (entry e 0) (entry e 1)
-    → perPixel (picked eight (n / 2 ^ 16)) ≡ decoded snorm n
+pub picked-decoded : (snorm : Bool) (n l0 l1 : ℕ) (e eight : List Float) (six : Bool) → l0 ≡ levelOf (n % 256) snorm → l1 ≡ levelOf (n / 2 ^ 8 % 256) snorm
+    → e ≡ levelValue l0 snorm ∷ levelValue l1 snorm ∷ [] → six ≡ isSix (n % 256) (n / 2 ^ 8 % 256) snorm → eight ≡ eightOf (entry e 0) (entry e 1) six
+    → perPixel (picked eight (n / 2 ^ 16)) ≡ decoded n snorm
 unfolding decoded tableOf
 picked-decoded snorm n l0 l1 e eight six e0 e1 ee es e8 =
     let same : eight ≡ tableOf snorm (byteAt n 0) (byteAt n 1) = rw (e8, es, ee, e0, e1, div-one) in
@@ -49,7 +49,7 @@ low-index n i h = rw (shr-shr, shr-shr) (bits-low n (16 + 3 * i) 3 64 (omega ari
 low-sample : (snorm : Bool) (n i : ℕ) → i < 16 → sampleAt snorm (n % 2 ^ 64) i ≡ sampleAt snorm n i
 low-sample snorm n i h = rw (low-index n i h, bits-low n 0 8 64 (omega arith), bits-low n 8 8 64 (omega arith))
 
-pub decoded-low : (snorm : Bool) (n : ℕ) → decoded snorm (n % 2 ^ 64) ≡ decoded snorm n
+pub decoded-low : (snorm : Bool) (n : ℕ) → decoded (n % 2 ^ 64) snorm ≡ decoded n snorm
 unfolding decoded
 decoded-low snorm n =
     ext-getD nan (perPixel (sampleAt snorm (n % 2 ^ 64))) (perPixel (sampleAt snorm n)) (length-tabulate _ 0 16 ∙ sym (length-tabulate _ 0 16))
@@ -57,6 +57,6 @@ decoded-low snorm n =
     getD-tabulate (sampleAt snorm (n % 2 ^ 64)) nan 16 i l ∙ low-sample snorm n i l ∙ sym (getD-tabulate (sampleAt snorm n) nan 16 i l))
 
 -- So a block that was laid out in bytes is read as it was.
-pub error-of-bytes : (snorm : Bool) (s : List Float) (n : ℕ) → blockError snorm s (fromBytes (bytesOf n)) ≡ blockError snorm s n
+pub error-of-bytes : (snorm : Bool) (s : List Float) (n : ℕ) → blockError s (fromBytes (bytesOf n)) snorm ≡ blockError s n snorm
 unfolding blockError
 error-of-bytes snorm s n = rw (from-bytesOf n, decoded-low snorm n)

@@ -137,8 +137,8 @@ four-unit x y X Y (suc (suc (suc (suc (suc (suc (suc zero))))))) h = one-unit
 four-unit x y X Y (suc (suc (suc (suc (suc (suc (suc (suc k)))))))) h = absurd (omega arith)
 
 -- ---- every value that two bytes can stand for
-end-unit : (snorm : Bool) (b : ℕ) → b < 256 → Unit (valueOf snorm b)
-end-unit snorm b h = levelValue-unit snorm (levelOf snorm b) (level-le snorm b h)
+end-unit : (snorm : Bool) (b : ℕ) → b < 256 → Unit (valueOf b snorm)
+end-unit snorm b h = levelValue-unit snorm (levelOf b snorm) (level-le snorm b h)
 
 sevenths-few : (d : ℕ) → d ≤ 255 → 7 * d ≤ nearness
 sevenths-few d h = omega arith
@@ -147,28 +147,28 @@ sevenths-pos : (d : ℕ) → 0 < d → 0 < 7 * d
 sevenths-pos d h = omega arith
 
 module _ (snorm : Bool) (c0 c1 : ℕ) (H0 : c0 < 256) (H1 : c1 < 256) where
-  six-unit : isSix snorm c0 c1 ≡ true → (k : ℕ) → k < 8 → Unit (entry (sixValues (valueOf snorm c0) (valueOf snorm c1)) k)
+  six-unit : isSix c0 c1 snorm ≡ true → (k : ℕ) → k < 8 → Unit (entry (sixValues (valueOf c0 snorm) (valueOf c1 snorm)) k)
   unfolding sixValues
   six-unit e zero h = end-unit snorm c0 H0
   six-unit e (suc zero) h = end-unit snorm c1 H1
   six-unit e (suc (suc k)) h =
-      bounded-unit (entry (sixValues (valueOf snorm c0) (valueOf snorm c1)) (suc (suc k))) (partsOf 7 (levelOf snorm c0) (levelOf snorm c1) (suc (suc k))) (7 * steps snorm)
+      bounded-unit (entry (sixValues (valueOf c0 snorm) (valueOf c1 snorm)) (suc (suc k))) (partsOf 7 (levelOf c0 snorm) (levelOf c1 snorm) (suc (suc k))) (7 * steps snorm)
       (sevenths-pos (steps snorm) (steps-pos snorm))
-      (exact-below (steps snorm) (levelOf snorm c0) (levelOf snorm c1) k (level-le snorm c0 H0) (below-level snorm c1 c0 H1 H0 e .1) (omega arith))
+      (exact-below (steps snorm) (levelOf c0 snorm) (levelOf c1 snorm) k (level-le snorm c0 H0) (below-level snorm c1 c0 H1 H0 e .1) (omega arith))
       (sevenths-few (steps snorm) (steps-few snorm))
       (six-at snorm c0 c1 (suc (suc k)) H0 H1 h e)
 
   pub value-unit : (k : ℕ) → k < 8 → Unit (valueAt snorm c0 c1 k)
   unfolding tableOf
-  value-unit k K = go (isSix snorm c0 c1) refl
+  value-unit k K = go (isSix c0 c1 snorm) refl
     where
-      go : (six : Bool) → isSix snorm c0 c1 ≡ six
-          → Unit (entry (cond six (sixValues (valueOf snorm c0) (valueOf snorm c1)) (colors (valueOf snorm c0) (valueOf snorm c1))) k)
+      go : (six : Bool) → isSix c0 c1 snorm ≡ six
+          → Unit (entry (cond six (sixValues (valueOf c0 snorm) (valueOf c1 snorm)) (colors (valueOf c0 snorm) (valueOf c1 snorm))) k)
       go true e = six-unit e k K
-      go false e = four-unit (valueOf snorm c0) (valueOf snorm c1) (end-unit snorm c0 H0) (end-unit snorm c1 H1) k K
+      go false e = four-unit (valueOf c0 snorm) (valueOf c1 snorm) (end-unit snorm c0 H0) (end-unit snorm c1 H1) k K
 
 -- A decoded block is in 0..1, as a block is after entry.
-pub decoded-unit : (snorm : Bool) (n : ℕ) → InUnit (decoded snorm n)
+pub decoded-unit : (snorm : Bool) (n : ℕ) → InUnit (decoded n snorm)
 decoded-unit snorm n =
     let at : (i : ℕ) → Unit (valueAt snorm (byteAt n 0) (byteAt n 1) (blockIndex n i)) =
     λ i. value-unit snorm (byteAt n 0) (byteAt n 1) (byte-lt n 0) (byte-lt n 1) (blockIndex n i) (index-lt n i) in

@@ -18,5 +18,5 @@ unfoldable pub errorTo : List Float → List Float → ℕ → Float
 errorTo s v zero = f0
 errorTo s v (suc k) = errorTo s v k ⊕ sampleError (pixelAt s k) (pixelAt v k)
 
-unfoldable pub blockError : Bool → List Float → ℕ → Float
-blockError snorm s n = errorTo s (decoded snorm n) 16
+unfoldable pub blockError : List Float → ℕ → Bool → Float
+blockError s n snorm = errorTo s (decoded n snorm) 16

@@ -19,10 +19,10 @@ exactFour one m n k = cond (eqb k 6) 0 (cond (eqb k 7) (5 * one) (partsOf 5 m n 
 -- six values are sevenths
 unfoldable pub exactNum : Bool → ℕ → ℕ → ℕ → ℕ
 exactNum snorm c0 c1 k =
-    cond (isSix snorm c0 c1) (partsOf 7 (levelOf snorm c0) (levelOf snorm c1) k) (exactFour (steps snorm) (levelOf snorm c0) (levelOf snorm c1) k)
+    cond (isSix c0 c1 snorm) (partsOf 7 (levelOf c0 snorm) (levelOf c1 snorm) k) (exactFour (steps snorm) (levelOf c0 snorm) (levelOf c1 snorm) k)
 
 unfoldable pub exactDen : Bool → ℕ → ℕ → ℕ
-exactDen snorm c0 c1 = cond (isSix snorm c0 c1) 7 5 * steps snorm
+exactDen snorm c0 c1 = cond (isSix c0 c1 snorm) 7 5 * steps snorm
 
 -- ---- the float, by its 32 bits: bit 31 is the sign, bits 23 to 30 are the exponent x, bits 0 to 22 the digits t.
 -- x = 0 means t / 2^149; x from 1 to 254 means (2^23 + t)·2^(x - 1) / 2^149; 255 is for the infinities and NaN.

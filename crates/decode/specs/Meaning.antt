@@ -11,8 +11,8 @@ use Rattle.block.specs.Samples.{perPixel}
 use Rattle.palette.specs.Palettes.{entry, inter6Palette, blended, colors}
 
 -- The mode: c0 > c1 as the bytes are written, signed for snorm, means six values, and anything else four.
-abbrev pub isSix : Bool → ℕ → ℕ → Bool
-isSix snorm c0 c1 = byteBelow snorm c1 c0
+abbrev pub isSix : ℕ → ℕ → Bool → Bool
+isSix c0 c1 snorm = byteBelow c1 c0 snorm
 
 -- Six values of two ends, by index: 0 and 1 are the ends themselves, k from 2 on is 8 - k sevenths from c1 towards c0 as `closest` has it.
 -- Index 0 is not 7 sevenths of that kind, which may differ in the last bit.
@@ -22,12 +22,12 @@ sixValues c0 c1 =
     c0 ∷ c1 ∷ blended p 6 ∷ blended p 5 ∷ blended p 4 ∷ blended p 3 ∷ blended p 2 ∷ blended p 1 ∷ []
 
 -- the eight decoded floats of two ends, by index; four-value ones are the palette's entries
-abbrev pub eightOf : Bool → Float → Float → List Float
-eightOf six c0 c1 = cond six (sixValues c0 c1) (colors c0 c1)
+abbrev pub eightOf : Float → Float → Bool → List Float
+eightOf c0 c1 six = cond six (sixValues c0 c1) (colors c0 c1)
 
 -- and of two bytes
 unfoldable pub tableOf : Bool → ℕ → ℕ → List Float
-tableOf snorm c0 c1 = eightOf (isSix snorm c0 c1) (valueOf snorm c0) (valueOf snorm c1)
+tableOf snorm c0 c1 = eightOf (valueOf c0 snorm) (valueOf c1 snorm) (isSix c0 c1 snorm)
 
 abbrev pub valueAt : Bool → ℕ → ℕ → ℕ → Float
 valueAt snorm c0 c1 k = entry (tableOf snorm c0 c1) k
@@ -44,5 +44,5 @@ blockIndex n i = indexAt (n / 2 ^ 16) i
 abbrev pub sampleAt : Bool → ℕ → ℕ → Float
 sampleAt snorm n i = picked (tableOf snorm (byteAt n 0) (byteAt n 1)) (n / 2 ^ 16) i
 
-unfoldable pub decoded : Bool → ℕ → List Float
-decoded snorm n = perPixel (sampleAt snorm n)
+unfoldable pub decoded : ℕ → Bool → List Float
+decoded n snorm = perPixel (sampleAt snorm n)

@@ -11,7 +11,7 @@ use palette::inter6::Inter6Palette;
 
 // Whether two endpoint bytes mean six values: c0 > c1, signed for snorm.
 pub fn is_six(c0: u8, c1: u8, snorm: bool) -> bool
-    ensures { λ r. ⌜ r ≡ isSix snorm c0 c1 ⌝ }
+    ensures { λ r. ⌜ r ≡ isSix c0 c1 snorm ⌝ }
 {
     values::byte_below(c1, c0, snorm)
 }
@@ -33,7 +33,7 @@ fn six_values(c0: f32, c1: f32) -> [f32; 8]
 }
 
 fn eight_values(c0: f32, c1: f32, six: bool) -> [f32; 8]
-    ensures { λ r. ⌜ r ≡ eightOf six c0 c1 ⌝ }
+    ensures { λ r. ⌜ r ≡ eightOf c0 c1 six ⌝ }
 {
     if six {
         return six_values(c0, c1);
@@ -57,7 +57,7 @@ fn look_up(list: IndexList, eight: [f32; 8], out: &mut [f32; 16])
 // The floats of two levels, both by one conversion: that of a single number keeps the rest of its register, and so waits for what the block before it
 // left there.
 fn end_values(l0: u8, l1: u8, snorm: bool) -> [f32; 2]
-    ensures { λ r. ⌜ r ≡ levelValue snorm l0 ∷ levelValue snorm l1 ∷ [] ⌝ }
+    ensures { λ r. ⌜ r ≡ levelValue l0 snorm ∷ levelValue l1 snorm ∷ [] ⌝ }
 {
     let levels = [l0, l1];
     let mut floats = [0.0f32; 2];
@@ -69,7 +69,7 @@ fn end_values(l0: u8, l1: u8, snorm: bool) -> [f32; 2]
 
 // Sixteen samples into the caller's array. The format is told apart here, so that each gets straight code.
 pub fn decode_into(block: u64, snorm: bool, out: &mut [f32; 16])
-    ensures { λ _. ⌜ now (out .exit) ≡ decoded snorm block ⌝ }
+    ensures { λ _. ⌜ now (out .exit) ≡ decoded block snorm ⌝ }
 {
     let c0 = (block % 256) as u8;
     let c1 = ((block >> 8) % 256) as u8;
@@ -101,7 +101,7 @@ fn error_sum(samples: &[f32; 16], values: &[f32; 16]) -> f32
 }
 
 pub fn block_error(samples: &[f32; 16], block: u64, snorm: bool) -> f32
-    ensures { λ r. ⌜ r ≡ blockError snorm (now (samples .entry)) block ⌝ }
+    ensures { λ r. ⌜ r ≡ blockError (now (samples .entry)) block snorm ⌝ }
 {
     let mut values = [0.0f32; 16];
     decode_into(block, snorm, &mut values);

@@ -30,8 +30,8 @@ use Rattle.demands.specs.RoundTrip.{ruleOf, meant, asked, Choice, byPale
 
 -- ---- endpoints as a palette wants them: in its mode's order
 abbrev pub InMode : Bool → Kind → EndPoints → Type 0
-InMode snorm Six e = byteBelow snorm (e .c1) (e .c0) ≡ true
-InMode snorm Four e = byteBelow snorm (e .c0) (e .c1) ≡ true
+InMode snorm Six e = byteBelow (e .c1) (e .c0) snorm ≡ true
+InMode snorm Four e = byteBelow (e .c0) (e .c1) snorm ≡ true
 
 pub record Ready (snorm : Bool) (kind : Kind) (e : EndPoints) : Type 0 where
   pub made : Made snorm e
@@ -72,7 +72,7 @@ palette-bytes kind e b false = refl
 
 -- the decoded pixels are the values meant
 abbrev Reads : Bool → Choice → Type 0
-Reads snorm c = (i : ℕ) → i < 16 → pixelAt (decoded snorm (bytesBy c)) i ≡ c .value i
+Reads snorm c = (i : ℕ) → i < 16 → pixelAt (decoded (bytesBy c) snorm) i ≡ c .value i
 
 palette-reads : (snorm : Bool) (kind : Kind) (e : EndPoints) (b : List Float) (dither : Bool) → Ready snorm kind e → Reads snorm (byPalette kind e b dither)
 unfolding byPalette

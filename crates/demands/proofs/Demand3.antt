@@ -25,7 +25,7 @@ use Rattle.refine.proofs.Limits.{refined-limits}
 use Rattle.refine.proofs.Rounding.{medium-no-larger, high-no-larger}
 use Rattle.compress.specs.Inter6.{compressedFrom, compressInter6}
 use Rattle.compress.specs.Inter4.{compressInter4}
-use Rattle.search.specs.Covered.{Covered, pairError, Written}
+use Rattle.search.specs.Covered.{Covered, pairError, OfPair}
 use Rattle.search.proofs.Covered.{search-written, search-none-smaller, search-finite}
 use Rattle.encode.proofs.Searched.{compressed-searched}
 use Rattle.decode.proofs.Finite.{blockError-within}
@@ -45,8 +45,8 @@ quantized-levelled : (snorm : Bool) (p : Pair) → Levelled (quantizedPair snorm
 unfolding quantized
 quantized-levelled snorm p =
     let d = levels-distinct snorm (p .0) (p .1) in
-    let h = levelValue-unit snorm (levelsOf snorm (p .0) (p .1) .high) (d .top) in
-    let l = levelValue-unit snorm (levelsOf snorm (p .0) (p .1) .low) (low-le snorm (levelsOf snorm (p .0) (p .1)) d) in
+    let h = levelValue-unit snorm (levelsOf (p .0) (p .1) snorm .high) (d .top) in
+    let l = levelValue-unit snorm (levelsOf (p .0) (p .1) snorm .low) (low-le snorm (levelsOf (p .0) (p .1) snorm) d) in
     record { first = unit-within _ (h .0) (h .1); second = unit-within _ (l .0) (l .1) }
 
 module _ (kind : Kind) (b : List Float) where
@@ -99,10 +99,10 @@ demand-3 = record {
   resends = later;
   flagged = flag-right;
   errors-finite = λ s snorm n. blockError-within snorm s n;
-  search-written = λ s o e. subst (Written (entered s)) (sym (compressed-searched s o e)) (search-written (entered s) (entered-unit s));
+  search-written = λ s o e. subst (OfPair (entered s)) (sym (compressed-searched s o e)) (search-written (entered s) (entered-unit s));
   search-none-smaller = λ s o e.
       subst
-      (λ (n : ℕ). (w : Written (entered s) n) (kind : Kind) (min max : ℕ) → Covered (entered s) min max → lt (pairError kind (entered s) min max) (pairError (w .kind) (entered s) (w .min) (w .max)) ≡ false)
+      (λ (n : ℕ). (w : OfPair (entered s) n) (kind : Kind) (min max : ℕ) → Covered (entered s) min max → lt (pairError kind (entered s) min max) (pairError (w .kind) (entered s) (w .min) (w .max)) ≡ false)
       (sym (compressed-searched s o e)) (search-none-smaller (entered s) (entered-unit s));
   search-finite = λ s kind min max c. search-finite (entered s) (entered-unit s) kind min max c;
 }

@@ -13,11 +13,11 @@ use Rattle.block.specs.Block.{entered, smallest, largest, minMax}
 use Rattle.values.specs.Values.{levelValue}
 use Rattle.index_list.specs.Indexes.{filledTo}
 use Rattle.options.specs.declared.Options.{Options}
-use Rattle.single.specs.Single.{epsilon, uniform, singleColor}
+use Rattle.single.specs.Single.{bc4Epsilon, uniform, singleColor}
 use Rattle.encode.specs.Encoder.{searches, middle, encoded, compressed}
 
-pub flat-encoded : (s : List Float) (o : Options) (p : Pair) → minMax (entered s) ≡ p → searches o ≡ false → lt (p .1 ⊖ p .0) epsilon ≡ true
-    → lt (absOf (closest (o .snorm) (middle p) .«c0_f» ⊖ middle p)) epsilon ≡ true → compressed s o ≡ uniform (closest (o .snorm) (middle p)) 0
+pub flat-encoded : (s : List Float) (o : Options) (p : Pair) → minMax (entered s) ≡ p → searches o ≡ false → lt (p .1 ⊖ p .0) bc4Epsilon ≡ true
+    → lt (absOf (closest (middle p) (o .snorm) .«c0_f» ⊖ middle p)) bc4Epsilon ≡ true → compressed s o ≡ uniform (closest (middle p) (o .snorm)) 0
 unfolding compressed encoded singleColor
 flat-encoded s o p e a b c = rw (e, a, b, c)
 

@@ -21,9 +21,9 @@ use Rattle.coding.specs.Coding.{indexedBy, written, ended6, ended4, coded6, cod
 use Rattle.compress.specs.Inter6.{smaller, compressInter6}
 use Rattle.compress.specs.Inter4.{compressInter4}
 use Rattle.search.specs.Search.{searched}
-use Rattle.search.specs.Covered.{endsOf, pairBytes, Written}
+use Rattle.search.specs.Covered.{endsOf, pairBytes, OfPair}
 use Rattle.search.proofs.Covered.{search-written}
-use Rattle.single.specs.Single.{uniform, nearest, singleColor}
+use Rattle.single.specs.Single.{uniform, nearerPalette, singleColor}
 use Rattle.single.proofs.OneIndex.{uniform-written}
 use Rattle.encode.specs.Encoder.{searches, sixOnly, betterBytes, compressedOf, encoded, compressed}
 use Rattle.encode.proofs.Middle.{block-middle-to-1}
@@ -47,7 +47,7 @@ unfolding ended6 ended4
 pair-bytes Six b min max = refl
 pair-bytes Four b min max = refl
 
-search-answer : (b : List Float) (o : Options) (n : ℕ) → searches o ≡ true → Written b n → Answer b o n
+search-answer : (b : List Float) (o : Options) (n : ℕ) → searches o ≡ true → OfPair b n → Answer b o n
 search-answer b o n s w =
     let e = plain (o .«brute_force») (o .dither) (o .snorm) s in
     let c = w .covered in
@@ -70,25 +70,25 @@ module _ (b : List Float) (o : Options) (s : searches o ≡ false) (f : flat b �
     around-answer : (n : ℕ) (kind : Kind) → (o .dither ≡ true → kind ≡ Six) → n ≡ written (ends kind) (indexedBy (ruleOf kind (ends kind)) (perPixel (λ i. v)) (o .dither)) .bytes → Answer b o n
     around-answer n kind d = by-palette b o n kind (ends kind) (perPixel (λ i. v)) (around s f l kind d) (ends-ready kind (o .snorm) (twice v))
 
-    nearest-answer : o .dither ≡ false → Answer b o (nearest (o .snorm) v)
-    unfolding nearest
-    nearest-answer d = go (lt (ruleOf Four (ends Four) v .error) (ruleOf Six (ends Six) v .error))
+    nearer-answer : o .dither ≡ false → Answer b o (nearerPalette v (o .snorm))
+    unfolding nearerPalette
+    nearer-answer d = go (lt (ruleOf Four (ends Four) v .error) (ruleOf Six (ends Six) v .error))
       where
         go : (t : Bool) → Answer b o (cond t (uniform (ends Four) (ruleOf Four (ends Four) v .index)) (uniform (ends Six) (ruleOf Six (ends Six) v .index)))
         go true = around-answer _ Four (λ t. clash t d) (rw d (uniform-written (ruleOf Four (ends Four)) (ends Four) v))
         go false = around-answer _ Six (λ t. refl) (rw d (uniform-written (ruleOf Six (ends Six)) (ends Six) v))
 
-    palette-answer : (t : Bool) → o .dither ≡ t → Answer b o (cond t dithered (nearest (o .snorm) v))
+    palette-answer : (t : Bool) → o .dither ≡ t → Answer b o (cond t dithered (nearerPalette v (o .snorm)))
     unfolding coded6 ended6
     palette-answer true d = around-answer _ Six (λ t. refl) (rw d refl)
-    palette-answer false d = nearest-answer d
+    palette-answer false d = nearer-answer d
 
-  flat-answer : InUnit b → Answer b o (singleColor (o .snorm) (o .dither) v)
+  flat-answer : InUnit b → Answer b o (singleColor v (o .snorm) (o .dither))
   unfolding singleColor
   flat-answer u = go (isLevel (o .snorm) v) refl
     where
-      go : (t : Bool) → isLevel (o .snorm) v ≡ t → Answer b o (cond t (uniform (closest (o .snorm) v) 0) (cond (o .dither) dithered (nearest (o .snorm) v)))
-      go true l = by-level b o _ (closest (o .snorm) v) (level s f l) (closest-made (o .snorm) v (block-middle-to-1 b u)) refl
+      go : (t : Bool) → isLevel (o .snorm) v ≡ t → Answer b o (cond t (uniform (closest v (o .snorm)) 0) (cond (o .dither) dithered (nearerPalette v (o .snorm))))
+      go true l = by-level b o _ (closest v (o .snorm)) (level s f l) (closest-made (o .snorm) v (block-middle-to-1 b u)) refl
       go false l = palette-answer l (o .dither) refl
 
 -- ---- any other block
@@ -113,7 +113,7 @@ module _ (b : List Float) (o : Options) (s : searches o ≡ false) (f : flat b �
   smaller-answer e true = coded-answer Six (fiveStart b) (five e)
   smaller-answer e false = coded-answer Six (sixStart b) six
 
-  six-answer : Answer b o (compressInter6 b o (minMax b) .bytes)
+  six-answer : Answer b o (compressInter6 b (minMax b) o .bytes)
   six-answer = rw (demand-3 .six-runs b o) (go (o .«size_variations») refl)
     where
       go : (t : Bool) → o .«size_variations» ≡ t → Answer b o (cond t (smaller (coded Six (sixStart b)) (coded Six (fiveStart b))) (coded Six (sixStart b)) .bytes)
@@ -123,7 +123,7 @@ module _ (b : List Float) (o : Options) (s : searches o ≡ false) (f : flat b �
   four-answer : sixOnly o (minMax b) ≡ false → Answer b o (compressInter4 b o .bytes)
   four-answer e = rw (demand-3 .four-runs b o) (coded-answer Four (fourStart b o) (four e))
 
-  better-answer : sixOnly o (minMax b) ≡ false → (t : Bool) → Answer b o (cond t (compressInter6 b o (minMax b) .bytes) (compressInter4 b o .bytes))
+  better-answer : sixOnly o (minMax b) ≡ false → (t : Bool) → Answer b o (cond t (compressInter6 b (minMax b) o .bytes) (compressInter4 b o .bytes))
   better-answer e true = six-answer
   better-answer e false = four-answer e
 
@@ -131,9 +131,9 @@ module _ (b : List Float) (o : Options) (s : searches o ≡ false) (f : flat b �
   unfolding compressedOf
   other-answer = go (sixOnly o (minMax b)) refl
     where
-      go : (t : Bool) → sixOnly o (minMax b) ≡ t → Answer b o (cond t (compressInter6 b o (minMax b) .bytes) (betterBytes (compressInter6 b o (minMax b)) (compressInter4 b o)))
+      go : (t : Bool) → sixOnly o (minMax b) ≡ t → Answer b o (cond t (compressInter6 b (minMax b) o .bytes) (betterBytes (compressInter6 b (minMax b) o) (compressInter4 b o)))
       go true e = six-answer
-      go false e = better-answer e (lt (compressInter6 b o (minMax b) .error) (compressInter4 b o .error))
+      go false e = better-answer e (lt (compressInter6 b (minMax b) o .error) (compressInter4 b o .error))
 
 -- ---- the whole encoder
 encoded-answer : (b : List Float) (o : Options) → InUnit b → Answer b o (encoded b o (minMax b))
@@ -141,7 +141,7 @@ unfolding encoded
 encoded-answer b o u = go (searches o) refl (flat b) refl
   where
     go : (t : Bool) → searches o ≡ t → (f : Bool) → flat b ≡ f
-        → Answer b o (cond t (searched b (minMax b)) (cond f (singleColor (o .snorm) (o .dither) (flatValue b)) (compressedOf b o (minMax b))))
+        → Answer b o (cond t (searched b (minMax b)) (cond f (singleColor (flatValue b) (o .snorm) (o .dither)) (compressedOf b o (minMax b))))
     go true s f h = search-answer b o _ s (search-written b u)
     go false s true h = flat-answer b o s h u
     go false s false h = other-answer b o s h

@@ -17,7 +17,7 @@ use Rattle.refusal.specs.declared.Checked.{Checked}
 use Rattle.refusal.specs.declared.Checked.the-variants.{Passed, Refused}
 use Rattle.refusal.specs.Refusals.{lowest, resendChecks}
 use Rattle.refusal.proofs.Lowest.{lowest-clear, same-of}
-use Rattle.bc4.specs.declared.Held.{Held}
+use Rattle.bc4.specs.declared.Kept.{Kept}
 use Rattle.bc4.specs.declared.Resent.the-variants.{Block as Answered}
 use Rattle.bc4.specs.Calls.{betterOf, resentOn, resendAnswer}
 use Rattle.bc4.proofs.Resends.{stays-or-replaced}
@@ -49,7 +49,7 @@ module _ (s : List Float) (held : List ℕ) (all : AllBytes held) (o : Options) 
       go (Refused q) = all
       go Passed = bytes-all (betterOf s (fromBytes held) o .block)
 
-  pub flag-right : (h : Held) → resendAnswer s held o ≡ Answered h → Iff (h .fresh ≡ true) (bytesOf (h .block) ≡ held → ⊥)
+  pub flag-right : (h : Kept) → resendAnswer s held o ≡ Answered h → Iff (h .fresh ≡ true) (bytesOf (h .block) ≡ held → ⊥)
   unfolding resentOn
   flag-right h = go (lowest (resendChecks s held o)) refl
     where
@@ -68,8 +68,8 @@ module _ (s : List Float) (held : List ℕ) (all : AllBytes held) (o : Options) 
 
 stays-trans : (snorm : Bool) (s : List Float) (l m n : List ℕ) → StaysOrBetter snorm s l m → StaysOrBetter snorm s m n → StaysOrBetter snorm s l n
 stays-trans snorm s l m n (inl p) q = subst (λ (x : List ℕ). StaysOrBetter snorm s x n) p q
-stays-trans snorm s l m n (inr p) (inl q) = inr (subst (λ (x : List ℕ). lt (blockError snorm s (fromBytes x)) (blockError snorm s (fromBytes l)) ≡ true) (sym q) p)
-stays-trans snorm s l m n (inr p) (inr q) = inr (lt-trans (blockError snorm s (fromBytes n)) (blockError snorm s (fromBytes m)) (blockError snorm s (fromBytes l)) q p)
+stays-trans snorm s l m n (inr p) (inl q) = inr (subst (λ (x : List ℕ). lt (blockError s (fromBytes x) snorm) (blockError s (fromBytes l) snorm) ≡ true) (sym q) p)
+stays-trans snorm s l m n (inr p) (inr q) = inr (lt-trans (blockError s (fromBytes n) snorm) (blockError s (fromBytes m) snorm) (blockError s (fromBytes l) snorm) q p)
 
 whole-series : (s : List Float) (snorm : Bool) (held : List ℕ) → AllBytes held → (ps : List Options) → AllIn snorm ps → StaysOrBetter snorm s held (series s held ps)
 unfolding series

@@ -22,9 +22,9 @@ use Rattle.fit.specs.Fit.{fitted}
 use Rattle.compress.specs.Inter6.{nudgedPair, five, smaller, compressInter6}
 use Rattle.compress.specs.Inter4.{firstEnds, compressInter4}
 use Rattle.encode.specs.Encoder.{searches, compressed}
-use Rattle.search.specs.Covered.{Covered, pairError, Written}
+use Rattle.search.specs.Covered.{Covered, pairError, OfPair}
 use Rattle.decode.specs.BlockError.{blockError}
-use Rattle.bc4.specs.declared.Held.{Held}
+use Rattle.bc4.specs.declared.Kept.{Kept}
 use Rattle.bc4.specs.declared.Resent.{Resent}
 use Rattle.bc4.specs.declared.Resent.the-variants.{Block as Answered, Refused as NotResent}
 use Rattle.bc4.specs.Calls.{resendAnswer}
@@ -75,7 +75,7 @@ AllIn snorm (o ∷ os) = (o .snorm ≡ snorm) × AllIn snorm os
 
 -- the bytes n are m, or their block error is strictly below
 abbrev pub StaysOrBetter : Bool → List Float → List ℕ → List ℕ → Type 0
-StaysOrBetter snorm samples m n = (n ≡ m) ⊎ (lt (blockError snorm samples (fromBytes n)) (blockError snorm samples (fromBytes m)) ≡ true)
+StaysOrBetter snorm samples m n = (n ≡ m) ⊎ (lt (blockError samples (fromBytes n) snorm) (blockError samples (fromBytes m) snorm) ≡ true)
 
 -- what is coded: the pair that a refinement under the encoder's own limit ends on, then rounded
 abbrev pub roundedEnds : Kind → List Float → Options → Pair → Pair
@@ -85,7 +85,7 @@ pub record Demand3 : Type 0 where
   -- the encoder's refinements are these three
   pub six-runs : (b : List Float) (o : Options)
       → let best = coded6 b (o .snorm) (o .dither) (roundedEnds Six b o (sixStart b)) in
-      compressInter6 b o (minMax b) ≡ cond (o .«size_variations») (smaller best (coded6 b (o .snorm) (o .dither) (roundedEnds Six b o (fiveStart b)))) best
+      compressInter6 b (minMax b) o ≡ cond (o .«size_variations») (smaller best (coded6 b (o .snorm) (o .dither) (roundedEnds Six b o (fiveStart b)))) best
   pub four-runs : (b : List Float) (o : Options) → compressInter4 b o ≡ coded4 b (o .snorm) (o .dither) (roundedEnds Four b o (fourStart b o))
   -- and each, under a larger limit, ends on the same pair or on a better one
   pub six-limits : (s : List Float) (o : Options) → Limits Six (entered s) o (sixStart (entered s))
@@ -100,12 +100,12 @@ pub record Demand3 : Type 0 where
   pub resends : (s : List Float) (snorm : Bool) (held : List ℕ) → AllBytes held → (os ps : List Options) → AllIn snorm os → AllIn snorm ps
       → StaysOrBetter snorm s (series s held os) (series s held (os ++ ps))
   -- the flag is set exactly when the bytes handed back are not the held ones
-  pub flagged : (s : List Float) (held : List ℕ) → AllBytes held → (o : Options) (h : Held) → resendAnswer s held o ≡ Answered h
+  pub flagged : (s : List Float) (held : List ℕ) → AllBytes held → (o : Options) (h : Kept) → resendAnswer s held o ≡ Answered h
       → Iff (h .fresh ≡ true) (bytesOf (h .block) ≡ held → ⊥)
-  pub errors-finite : (s : List Float) (snorm : Bool) (n : ℕ) → Within 64 (blockError snorm s n)
+  pub errors-finite : (s : List Float) (snorm : Bool) (n : ℕ) → Within 64 (blockError s n snorm)
   -- where the exhaustive search applies: a covered pair is written, in one of the modes,
-  pub search-written : (s : List Float) (o : Options) → searches o ≡ true → Written (entered s) (compressed s o)
+  pub search-written : (s : List Float) (o : Options) → searches o ≡ true → OfPair (entered s) (compressed s o)
   -- and no covered pair in either mode has a smaller palette error than the one written; the errors are finite.
-  pub search-none-smaller : (s : List Float) (o : Options) → searches o ≡ true → (w : Written (entered s) (compressed s o)) (kind : Kind) (min max : ℕ)
+  pub search-none-smaller : (s : List Float) (o : Options) → searches o ≡ true → (w : OfPair (entered s) (compressed s o)) (kind : Kind) (min max : ℕ)
       → Covered (entered s) min max → lt (pairError kind (entered s) min max) (pairError (w .kind) (entered s) (w .min) (w .max)) ≡ false
   pub search-finite : (s : List Float) (kind : Kind) (min max : ℕ) → Covered (entered s) min max → Within 256 (pairError kind (entered s) min max)

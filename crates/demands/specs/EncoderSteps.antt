@@ -29,11 +29,11 @@ pub record EncoderSteps : Type 0 where
   -- after entry every sample is in 0..1, whatever it was
   pub entry : (s : List Float) → InUnit (entered s)
   -- The six-value constructor gives c0 above c1 for every two floats, NaN too, and the four-value one c0 below c1, in the format's order.
-  pub six-order : (snorm : Bool) (e0 e1 : Float) → byteBelow snorm (inter6 snorm e0 e1 .c1) (inter6 snorm e0 e1 .c0) ≡ true
-  pub four-order : (snorm : Bool) (e0 e1 : Float) → byteBelow snorm (inter4 snorm e0 e1 .c0) (inter4 snorm e0 e1 .c1) ≡ true
+  pub six-order : (snorm : Bool) (e0 e1 : Float) → byteBelow (inter6 e0 e1 snorm .c1) (inter6 e0 e1 snorm .c0) snorm ≡ true
+  pub four-order : (snorm : Bool) (e0 e1 : Float) → byteBelow (inter4 e0 e1 snorm .c0) (inter4 e0 e1 snorm .c1) snorm ≡ true
   -- no signed byte of theirs is -128, and the floats that go with the bytes are the bytes' own
-  pub six-sound : (snorm : Bool) (e0 e1 : Float) → Sound snorm (inter6 snorm e0 e1)
-  pub four-sound : (snorm : Bool) (e0 e1 : Float) → Sound snorm (inter4 snorm e0 e1)
+  pub six-sound : (snorm : Bool) (e0 e1 : Float) → Sound snorm (inter6 e0 e1 snorm)
+  pub four-sound : (snorm : Bool) (e0 e1 : Float) → Sound snorm (inter4 e0 e1 snorm)
   -- each pixel's targets and shares are the dither table's, and a share of 0 is not given at all
   pub targets : (m : List Float) (i : ℕ) (error : Float) → i < 16 → diffused m i error ≡ served m i error
   -- the candidates of a round and of high rounding are the Rust's own lists of pairs

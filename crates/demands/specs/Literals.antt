@@ -6,14 +6,15 @@ use mathlib.Core.Bool.{true, false}
 use Prim.Native.Nat.{ℕ, _<_, _^_}
 use lib.ListN.{getD}
 use lib.Ieee.{Float, nan, binary32, round}
-use Rattle.floats.specs.Arithmetic.{_⊕_, _⊖_, _⊗_, _⊘_, whole, bits, f0, half, f1, f254, f255, f2^23}
+use Rattle.floats.specs.Arithmetic.{_⊕_, _⊖_, _⊗_, _⊘_, whole, bits, f0, half, f1, f2, f254, f255, f2^23}
 use Rattle.block.specs.Block.{bc4MinValue, sixteenth}
 use Rattle.palette.specs.Palettes.{f7, seventh, fifth1, fifth2, fifth3, fifth4}
-use Rattle.bcn_util.specs.LeastSquares.{epsilon}
+use Rattle.bcn_util.specs.LeastSquares.{f32Epsilon}
 use Rattle.bcn_util.specs.Diffusion.{sixteenths, weights}
 use Rattle.refine.specs.Refining.{quantStep, leastStep}
 use Rattle.search.specs.Floor.{margin}
-use Rattle.single.specs.Single.{epsilon as flatEpsilon}
+use Rattle.single.specs.Single.{bc4Epsilon}
+use Rattle.encode.specs.Encoder.{inter6Threshold}
 
 -- The number num / den, rounded to f32: of all floats the nearest, and of two that are equally near the one whose last binary digit is 0. This is
 -- what `round` of the checker's library is defined as, and what each operation of f32 does with its exact result.
@@ -25,14 +26,14 @@ pub record Literals : Type 0 where
   -- `0.0` and `1.0`, in most functions; Vec4::ZERO and Vec4::ONE
   pub nought : f0 ≡ whole 0
   pub one : f1 ≡ whole 1
-  -- `2.`: reference_brute_force, here minLimit
-  pub two : bits 0x4000_0000 ≡ whole 2
+  -- `2.`: reference_brute_force
+  pub two : f2 ≡ whole 2
   -- `7.0`: Inter6Palette::new, closest_weights4
   pub seven : f7 ≡ whole 7
   -- `254.0`: EndPoints, signed
   pub signed-steps : f254 ≡ whole 254
-  -- `255.0`: EndPoints, unsigned. `255.`: reference_brute_force, here minLimit and leastMax
-  pub unsigned-steps : (f255 ≡ whole 255) × (bits 0x437f_0000 ≡ whole 255)
+  -- `255.0`: EndPoints, unsigned. `255.`: reference_brute_force
+  pub unsigned-steps : f255 ≡ whole 255
   -- `0.5`: compress_bc4_block, EndPoints, both palettes, step_decay in refine_endpoints
   pub one-half : half ≡ decimal 5 10
   -- `0.25`: compress_inter6, here five
@@ -44,7 +45,7 @@ pub record Literals : Type 0 where
   -- `0.2`, `0.4`, `0.6`, `0.8`: Inter4Palette::new
   pub fifths : (fifth1 ≡ decimal 2 10) × (fifth2 ≡ decimal 4 10) × (fifth3 ≡ decimal 6 10) × (fifth4 ≡ decimal 8 10)
   -- `f32::EPSILON`, 2^-23: LeastSquaresWeightMatrix::from_d
-  pub f32-epsilon : epsilon ≡ decimal 1 (2 ^ 23)
+  pub f32-epsilon : f32Epsilon ≡ decimal 1 (2 ^ 23)
   -- ---- expressions
   -- `0.125`, MAX_DISTANCE, and `1.0 - MAX_DISTANCE`: inter4_reassign_defaults, here far
   pub max-distance : (bits 0x3e00_0000 ≡ decimal 125 1000) × (bits 0x3f60_0000 ≡ whole 1 ⊖ decimal 125 1000)
@@ -55,9 +56,9 @@ pub record Literals : Type 0 where
   -- `1. / (255. * 7.)`: BC4_MIN_VALUE
   pub min-value : bc4MinValue ≡ whole 1 ⊘ (whole 255 ⊗ whole 7)
   -- `1. / (65536.)`: BC4_EPSILON
-  pub bc4-epsilon : flatEpsilon ≡ whole 1 ⊘ whole 65_536
-  -- `1.0 / 7.0`: Inter6Palette::new, closest_weights4. `1. / 7.`: INTER6_THRESHOLD in compress_bc4_block, here amid
-  pub one-seventh : (seventh ≡ whole 1 ⊘ whole 7) × (bits 0x3e12_4925 ≡ whole 1 ⊘ whole 7)
+  pub bc4-epsilon : bc4Epsilon ≡ whole 1 ⊘ whole 65_536
+  -- `1.0 / 7.0`: Inter6Palette::new, closest_weights4. `1. / 7.`: INTER6_THRESHOLD in compress_bc4_block
+  pub one-seventh : (seventh ≡ whole 1 ⊘ whole 7) × (inter6Threshold ≡ whole 1 ⊘ whole 7)
   -- `1. / 7.` as above, then `2. / 7.` to `6. / 7.`: FACTORS in Inter6Palette::block_closest_error_sq, here values6
   pub sevenths :
       (bits 0x3e92_4925 ≡ whole 2 ⊘ whole 7) × (bits 0x3edb_6db7 ≡ whole 3 ⊘ whole 7) × (bits 0x3f12_4925 ≡ whole 4 ⊘ whole 7)

@@ -23,7 +23,7 @@ use Rattle.palette.specs.Closest.{closest6, closest4}
 use Rattle.bcn_util.specs.Dither.{ditherTo}
 use Rattle.options.specs.declared.Options.{Options}
 use Rattle.search.specs.Covered.{Covered, endsOf}
-use Rattle.single.specs.Single.{epsilon}
+use Rattle.single.specs.Single.{bc4Epsilon}
 use Rattle.encode.specs.Encoder.{searches, sixOnly, middle, compressed}
 use Rattle.decode.specs.Meaning.{decoded}
 use Rattle.refusal.specs.Refusals.{lowest, decodeChecks}
@@ -63,22 +63,22 @@ byLevel e = record { ends = e; index = λ i. 0; value = λ i. e .«c0_f» }
 -- ---- the choices that the encoder has for a block, as it has entered
 -- the endpoints of a pair of floats, in a mode
 abbrev pub endsIn : Kind → Bool → Pair → EndPoints
-endsIn Six snorm p = inter6 snorm (p .0) (p .1)
-endsIn Four snorm p = inter4 snorm (p .0) (p .1)
+endsIn Six snorm p = inter6 (p .0) (p .1) snorm
+endsIn Four snorm p = inter4 (p .0) (p .1) snorm
 
 abbrev pub twice : Float → Pair
 twice v = record { 0 = v; 1 = v }
 
 -- all samples are nearly the same, and the middle of the smallest and the largest stands for each
 abbrev pub flat : List Float → Bool
-flat b = lt (minMax b .1 ⊖ minMax b .0) epsilon
+flat b = lt (minMax b .1 ⊖ minMax b .0) bc4Epsilon
 
 abbrev pub flatValue : List Float → Float
 flatValue b = middle (minMax b)
 
 -- a level is near enough to that
 abbrev pub isLevel : Bool → Float → Bool
-isLevel snorm v = lt (absOf (closest snorm v .«c0_f» ⊖ v)) epsilon
+isLevel snorm v = lt (absOf (closest v snorm .«c0_f» ⊖ v)) bc4Epsilon
 
 -- where the refinements start: of six values, of five of them, and of four
 pub data Start (b : List Float) (o : Options) : Kind → Pair → Type 0 where
@@ -90,7 +90,7 @@ pub data CanChoose (b : List Float) (o : Options) : Choice → Type 0 where
   -- the search: a covered pair of bytes, in a mode
   found : searches o ≡ true → (kind : Kind) (min max : ℕ) → Covered b min max → CanChoose b o (byPalette kind (endsOf kind min max) b (o .dither))
   -- a flat block: a level, or else a palette around its value, which with dither is that of six values
-  level : searches o ≡ false → flat b ≡ true → isLevel (o .snorm) (flatValue b) ≡ true → CanChoose b o (byLevel (closest (o .snorm) (flatValue b)))
+  level : searches o ≡ false → flat b ≡ true → isLevel (o .snorm) (flatValue b) ≡ true → CanChoose b o (byLevel (closest (flatValue b) (o .snorm)))
   around : searches o ≡ false → flat b ≡ true → isLevel (o .snorm) (flatValue b) ≡ false → (kind : Kind) → (o .dither ≡ true → kind ≡ Six)
       → CanChoose b o (byPalette kind (endsIn kind (o .snorm) (twice (flatValue b))) (perPixel (λ i. flatValue b)) (o .dither))
   -- any other: the palette of the pair that a refinement ends on
@@ -104,13 +104,13 @@ pub record Chosen (b : List Float) (o : Options) (n : ℕ) : Type 0 where
   -- no signed byte is -128, and the floats of the palette are those of the bytes
   pub sound : Sound (o .snorm) (choice .ends)
   pub bytes : n ≡ packed (choice .ends .c0) (choice .ends .c1) (filledTo (choice .index) 16)
-  pub decodes : (i : ℕ) → i < 16 → pixelAt (decoded (o .snorm) n) i ≡ choice .value i
+  pub decodes : (i : ℕ) → i < 16 → pixelAt (decoded n (o .snorm)) i ≡ choice .value i
 
 pub record RoundTrip : Type 0 where
   pub chosen : (s : List Float) (o : Options) → Chosen (entered s) o (compressed s o)
   -- decode accepts the eight bytes of an answer, and what it leaves in the lent array is that block
   pub read : (s : List Float) (o : Options) (before : List Float)
       → let encoded = bytesOf (compressed s o) in
-      samplesAfter (lowest (decodeChecks encoded)) (o .snorm) encoded before ≡ decoded (o .snorm) (compressed s o)
+      samplesAfter (lowest (decodeChecks encoded)) (o .snorm) encoded before ≡ decoded (compressed s o) (o .snorm)
   -- neither endpoint byte of a signed answer is -128
   pub never-128 : (s : List Float) (o : Options) → o .snorm ≡ true → (byteAt (compressed s o) 0 ≡ 128 → ⊥) × (byteAt (compressed s o) 1 ≡ 128 → ⊥)

@@ -29,15 +29,15 @@ pub record WorkedValues : Type 0 where
   -- 1: endpoint byte from 0, 127, 254
   pub value-1 : (fromNorm 0 ≡ 129) × (fromNorm 127 ≡ 0) × (fromNorm 254 ≡ 127)
   -- 2: unsigned six-value (0,0)
-  pub value-2 : Bytes (inter6 false f0 f0) 1 0
+  pub value-2 : Bytes (inter6 f0 f0 false) 1 0
   -- 3: unsigned (1,1)
-  pub value-3 : Bytes (inter6 false f1 f1) 255 254
+  pub value-3 : Bytes (inter6 f1 f1 false) 255 254
   -- 4: signed (0,0)
-  pub value-4 : Bytes (inter6 true f0 f0) 0x82 0x81
+  pub value-4 : Bytes (inter6 f0 f0 true) 0x82 0x81
   -- 5: signed (1,1)
-  pub value-5 : Bytes (inter6 true f1 f1) 0x7f 0x7e
+  pub value-5 : Bytes (inter6 f1 f1 true) 0x7f 0x7e
   -- 6: unsigned (NaN,NaN)
-  pub value-6 : Bytes (inter6 false nan nan) 255 0
+  pub value-6 : Bytes (inter6 nan nan false) 255 0
   -- 7: index 5 at pixel 2, rest 0
   pub value-7 : indexBytes (setAt 0 2 5) ≡ 0x40 ∷ 0x01 ∷ 0 ∷ 0 ∷ 0 ∷ 0 ∷ []
   -- 8: all indexes 7

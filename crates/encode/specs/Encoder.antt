@@ -10,17 +10,21 @@ use Rattle.options.specs.declared.Options.{Options}
 use Rattle.coding.specs.declared.Coded.{Coded}
 use Rattle.compress.specs.Inter6.{compressInter6}
 use Rattle.compress.specs.Inter4.{compressInter4}
-use Rattle.single.specs.Single.{epsilon, singleColor}
+use Rattle.single.specs.Single.{bc4Epsilon, singleColor}
 use Rattle.search.specs.Search.{searched}
 
 -- the exhaustive search applies
 abbrev pub searches : Options → Bool
 searches o = (o .«brute_force» && not (o .dither)) && not (o .snorm)
 
--- INTER6_THRESHOLD, 1 / 7: both ends are so far from 0 and 1 that six values are always better
+-- INTER6_THRESHOLD, 1 / 7
+abbrev pub inter6Threshold : Float
+inter6Threshold = bits 0x3e12_4925
+
+-- both ends are so far from 0 and 1 that six values are always better
 abbrev pub amid : Pair → Bool
 amid p =
-    let seventh = (p .1 ⊖ p .0) ⊗ bits 0x3e12_4925 in
+    let seventh = (p .1 ⊖ p .0) ⊗ inter6Threshold in
     lt f0 (p .0 ⊖ seventh) && lt (p .1 ⊕ seventh) f1
 
 -- six values alone are tried
@@ -33,7 +37,7 @@ betterBytes six four = cond (lt (six .error) (four .error)) (six .bytes) (four .
 
 unfoldable pub compressedOf : List Float → Options → Pair → ℕ
 compressedOf b o p =
-    let six = compressInter6 b o p in
+    let six = compressInter6 b p o in
     cond (sixOnly o p) (six .bytes) (betterBytes six (compressInter4 b o))
 
 abbrev pub middle : Pair → Float
@@ -43,7 +47,7 @@ middle p = half ⊗ (p .0 ⊕ p .1)
 unfoldable pub encoded : List Float → Options → Pair → ℕ
 encoded b o p =
     cond (searches o) (searched b p)
-    (cond (lt (p .1 ⊖ p .0) epsilon) (singleColor (o .snorm) (o .dither) (middle p)) (compressedOf b o p))
+    (cond (lt (p .1 ⊖ p .0) bc4Epsilon) (singleColor (middle p) (o .snorm) (o .dither)) (compressedOf b o p))
 
 unfoldable pub compressed : List Float → Options → ℕ
 compressed s o = let b = entered s in encoded b o (minMax b)

@@ -14,20 +14,20 @@ abbrev pub scale : Bool → Float
 scale snorm = cond snorm f254 f255
 
 -- round to nearest
-abbrev pub nearest : Bool → Float → ℕ
-nearest snorm x = byteOf (scale snorm ⊗ x ⊕ half)
+abbrev pub nearestLevel : Float → Bool → ℕ
+nearestLevel x snorm = byteOf (scale snorm ⊗ x ⊕ half)
 
 -- round down
-abbrev pub roundedDown : Bool → Float → ℕ
-roundedDown snorm x = byteOf (scale snorm ⊗ x)
+abbrev pub roundedDown : Float → Bool → ℕ
+roundedDown x snorm = byteOf (scale snorm ⊗ x)
 
 -- the level's distance from the top, rounded down
 abbrev pub downFromTop : Bool → Float → ℕ
 downFromTop snorm x = byteOf (scale snorm ⊗ (f1 ⊖ x))
 
 -- round up
-abbrev pub roundedUp : Bool → Float → ℕ
-roundedUp snorm x = steps snorm - downFromTop snorm x
+abbrev pub roundedUp : Float → Bool → ℕ
+roundedUp x snorm = steps snorm - downFromTop snorm x
 
 abbrev pub levels : ℕ → ℕ → Levels
 levels low high = record { low = low; high = high }
@@ -37,15 +37,15 @@ unfoldable pub apart : ℕ → ℕ → Levels
 apart low high = cond (eqb low high) (cond (eqb low 0) (levels low 1) (levels (low - 1) high)) (levels low high)
 
 -- of a smaller and a larger float: each to the nearest level, or, where that is one level, outwards from each other
-unfoldable pub levelsBetween : Bool → Float → Float → Levels
-levelsBetween snorm min max =
-    cond (eqb (nearest snorm min) (nearest snorm max))
-    (apart (roundedDown snorm min) (roundedUp snorm max))
-    (levels (nearest snorm min) (nearest snorm max))
+unfoldable pub levelsBetween : Float → Float → Bool → Levels
+levelsBetween min max snorm =
+    cond (eqb (nearestLevel min snorm) (nearestLevel max snorm))
+    (apart (roundedDown min snorm) (roundedUp max snorm))
+    (levels (nearestLevel min snorm) (nearestLevel max snorm))
 
 -- signed ends are clamped first, which keeps a NaN; unsigned ones are left to the casts
-abbrev pub inFormat : Bool → Float → Float
-inFormat snorm x = cond snorm (clampOf x) x
+abbrev pub inFormat : Float → Bool → Float
+inFormat x snorm = cond snorm (clampOf x) x
 
-unfoldable pub levelsOf : Bool → Float → Float → Levels
-levelsOf snorm e0 e1 = levelsBetween snorm (inFormat snorm (minOf e0 e1)) (inFormat snorm (maxOf e0 e1))
+unfoldable pub levelsOf : Float → Float → Bool → Levels
+levelsOf e0 e1 snorm = levelsBetween (inFormat (minOf e0 e1) snorm) (inFormat (maxOf e0 e1) snorm) snorm

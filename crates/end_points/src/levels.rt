@@ -15,14 +15,14 @@ fn scale(snorm: bool) -> f32
     floats::pick(snorm, 254.0, 255.0)
 }
 
-pub fn nearest(x: f32, snorm: bool) -> u8
-    ensures { λ r. ⌜ r ≡ L.nearest snorm x ⌝ }
+pub fn nearest_level(x: f32, snorm: bool) -> u8
+    ensures { λ r. ⌜ r ≡ L.nearestLevel x snorm ⌝ }
 {
     floats::byte_of(scale(snorm) * x + 0.5)
 }
 
 fn rounded_down(x: f32, snorm: bool) -> u8
-    ensures { λ r. ⌜ r ≡ L.roundedDown snorm x ⌝ }
+    ensures { λ r. ⌜ r ≡ L.roundedDown x snorm ⌝ }
 {
     floats::byte_of(scale(snorm) * x)
 }
@@ -30,7 +30,7 @@ fn rounded_down(x: f32, snorm: bool) -> u8
 // Signed values come clamped, so that the distance from the top is 254 at most.
 fn rounded_up(x: f32, snorm: bool) -> u8
     requires { ⌜ L.downFromTop snorm x ≤ steps snorm ⌝ }
-    ensures { λ r. ⌜ r ≡ L.roundedUp snorm x ⌝ }
+    ensures { λ r. ⌜ r ≡ L.roundedUp x snorm ⌝ }
 {
     values::steps(snorm) - floats::byte_of(scale(snorm) * (1.0 - x))
 }
@@ -56,10 +56,10 @@ fn apart(low: u8, high: u8) -> Levels
 // The caller's signed ends are clamped, or a NaN.
 fn between(min: f32, max: f32, snorm: bool) -> Levels
     requires { ⌜ L.downFromTop snorm max ≤ steps snorm ⌝ }
-    ensures { λ r. ⌜ r ≡ L.levelsBetween snorm min max ⌝ }
+    ensures { λ r. ⌜ r ≡ L.levelsBetween min max snorm ⌝ }
 {
-    let low = nearest(min, snorm);
-    let high = nearest(max, snorm);
+    let low = nearest_level(min, snorm);
+    let high = nearest_level(max, snorm);
     if low == high {
         return apart(rounded_down(min, snorm), rounded_up(max, snorm));
     }
@@ -70,13 +70,13 @@ fn between(min: f32, max: f32, snorm: bool) -> Levels
 }
 
 fn in_format(x: f32, snorm: bool) -> f32
-    ensures { λ r. ⌜ r ≡ L.inFormat snorm x ⌝ }
+    ensures { λ r. ⌜ r ≡ L.inFormat x snorm ⌝ }
 {
     floats::pick(snorm, floats::clamp(x), x)
 }
 
 pub fn of_ends(e0: f32, e1: f32, snorm: bool) -> Levels
-    ensures { λ r. ⌜ r ≡ L.levelsOf snorm e0 e1 ⌝ }
+    ensures { λ r. ⌜ r ≡ L.levelsOf e0 e1 snorm ⌝ }
 {
     let min = in_format(floats::min(e0, e1), snorm);
     let max = in_format(floats::max(e0, e1), snorm);

@@ -23,7 +23,7 @@ pub struct EndPoints {
 impl EndPoints {
     // Two bytes, with the floats of the bytes.
     fn of_bytes(c0: u8, c1: u8, snorm: bool) -> Self
-        ensures { λ r. ⌜ r ≡ ofBytes snorm c0 c1 ⌝ }
+        ensures { λ r. ⌜ r ≡ ofBytes c0 c1 snorm ⌝ }
     {
         Self {
             c0: c0,
@@ -38,9 +38,9 @@ impl EndPoints {
     // here, and above 1 its signed level would run past 254.
     pub fn new_closest(value: f32, snorm: bool) -> Self
         requires { ⌜ (le f0 value ≡ true) × (le value f1 ≡ true) ⌝ }
-        ensures { λ r. ⌜ r ≡ closest snorm value ⌝ }
+        ensures { λ r. ⌜ r ≡ closest value snorm ⌝ }
     {
-        let level = levels::nearest(value, snorm);
+        let level = levels::nearest_level(value, snorm);
         Self::of_bytes(
             values::level_byte(level, snorm),
             values::level_byte(0, snorm),
@@ -50,7 +50,7 @@ impl EndPoints {
 
     // The larger first.
     pub fn quantize(e0: f32, e1: f32, snorm: bool) -> Pair
-        ensures { λ r. ⌜ r ≡ quantized snorm e0 e1 ⌝ }
+        ensures { λ r. ⌜ r ≡ quantized e0 e1 snorm ⌝ }
     {
         let l = levels::of_ends(e0, e1, snorm);
         Pair(
@@ -61,7 +61,7 @@ impl EndPoints {
 
     // The Rust's `swap` where the signed bytes are not in order.
     fn swapped(c0: u8, c1: u8, snorm: bool) -> Self
-        ensures { λ r. ⌜ r ≡ swappedOf snorm c0 c1 ⌝ }
+        ensures { λ r. ⌜ r ≡ swappedOf c0 c1 snorm ⌝ }
     {
         if snorm & !values::byte_below(c1, c0, snorm) {
             return Self::of_bytes(c1, c0, snorm);
@@ -71,7 +71,7 @@ impl EndPoints {
 
     // For the six-value mode, c0 above c1.
     pub fn new_inter6(e0: f32, e1: f32, snorm: bool) -> Self
-        ensures { λ r. ⌜ r ≡ inter6 snorm e0 e1 ⌝ }
+        ensures { λ r. ⌜ r ≡ inter6 e0 e1 snorm ⌝ }
     {
         let l = levels::of_ends(e0, e1, snorm);
         Self::swapped(
@@ -82,13 +82,13 @@ impl EndPoints {
     }
 
     pub fn new_inter4(e0: f32, e1: f32, snorm: bool) -> Self
-        ensures { λ r. ⌜ r ≡ inter4 snorm e0 e1 ⌝ }
+        ensures { λ r. ⌜ r ≡ inter4 e0 e1 snorm ⌝ }
     {
         Self::new_inter6(e0, e1, snorm).inter6_to_inter4()
     }
 
     pub fn new_inter6_unorm(c0: u8, c1: u8) -> Self
-        ensures { λ r. ⌜ r ≡ ofBytes false c0 c1 ⌝ }
+        ensures { λ r. ⌜ r ≡ ofBytes c0 c1 false ⌝ }
     {
         Self::of_bytes(c0, c1, false)
     }

@@ -15,7 +15,7 @@ use Rattle.bc4.specs.declared.Encoded.{Encoded}
 use Rattle.bc4.specs.declared.Encoded.the-variants.{Block, Refused as NotEncoded}
 use Rattle.bc4.specs.declared.Scored.{Scored}
 use Rattle.bc4.specs.declared.Scored.the-variants.{Error, Refused as NotScored}
-use Rattle.bc4.specs.declared.Held.{Held}
+use Rattle.bc4.specs.declared.Kept.{Kept}
 use Rattle.bc4.specs.declared.Resent.{Resent}
 use Rattle.bc4.specs.declared.Resent.the-variants.{Block as Answered, Refused as NotResent}
 use Rattle.bc4.specs.declared.Tiled.{Tiled}
@@ -24,19 +24,19 @@ use Rattle.refusal.specs.Refusals.{numberOf}
 use Rattle.bc4.specs.Word.{wordOf, encodeByWord, resendByWord, tileByWord}
 
 -- the options word, byte 0 lowest
-abbrev pub wordIn : ℕ → Word
-wordIn options = wordOf (options % 2 ^ 8) (options / 2 ^ 8 % 2 ^ 8) (options / 2 ^ 16 % 2 ^ 8) (options / 2 ^ 24)
+abbrev pub wordOfNumber : ℕ → Word
+wordOfNumber options = wordOf (options % 2 ^ 8) (options / 2 ^ 8 % 2 ^ 8) (options / 2 ^ 16 % 2 ^ 8) (options / 2 ^ 24)
 
 -- ---- the answers for such a word
 abbrev pub encodeFor : List Float → ℕ → Encoded
-encodeFor samples options = encodeByWord samples (wordIn options)
+encodeFor samples options = encodeByWord samples (wordOfNumber options)
 
 abbrev pub resendFor : List Float → List ℕ → ℕ → Resent
-resendFor samples held options = resendByWord samples held (wordIn options)
+resendFor samples held options = resendByWord samples held (wordOfNumber options)
 
 -- `room` is the length of the output
 abbrev pub tileFor : List Float → ℕ → ℕ → ℕ → ℕ → Tiled
-tileFor samples width height room options = tileByWord samples width height room (wordIn options)
+tileFor samples width height room options = tileByWord samples width height room (wordOfNumber options)
 
 -- ---- a refusal, or none
 abbrev pub numberIn : Checked → ℕ

@@ -5,7 +5,7 @@ ghost use mathlib.Core.Bool.{cond};
 ghost use lib.ListN.{length};
 ghost use Rattle.refusal.specs.Refusals.{numberOf, lowest, decodeChecks, viewChecks};
 ghost use Rattle.bc4.specs.Calls.{ofEncoded, ofScored, ofResent, ofTiled, samplesAfter, errorAnswer, outAfter};
-ghost use Rattle.exports.specs.Border.{wordIn, encodeFor, resendFor, tileFor, numberIn, nanOn, nanAfter, blockAfter, errorAfter, heldAfter, freshAfter, writtenAfter, offsetAfter};
+ghost use Rattle.exports.specs.Border.{wordOfNumber, encodeFor, resendFor, tileFor, numberIn, nanOn, nanAfter, blockAfter, errorAfter, heldAfter, freshAfter, writtenAfter, offsetAfter};
 use bc4::Checked;
 use bc4::Encoded;
 use bc4::Refusal;
@@ -23,7 +23,7 @@ pub extern "C" fn bc4_version() -> u32
 }
 
 fn word_in(options: u32) -> Word
-    ensures { λ r. ⌜ r ≡ wordIn options ⌝ }
+    ensures { λ r. ⌜ r ≡ wordOfNumber options ⌝ }
 {
     bc4::word::read(
         (options % 256) as u8,
@@ -153,7 +153,7 @@ pub extern "C" fn bc4_encode_tile(
     nan: &mut usize,
 ) -> u32
     ensures number { λ r. ⌜ r ≡ numberIn (ofTiled (tileFor (now (samples .entry)) width height (length (now (out .entry))) options)) ⌝ }
-    ensures bytes { λ _. ⌜ now (out .exit) ≡ outAfter (tileFor (now (samples .entry)) width height (length (now (out .entry))) options) (now (samples .entry)) width height (wordIn options .options) (now (out .entry)) ⌝ }
+    ensures bytes { λ _. ⌜ now (out .exit) ≡ outAfter (tileFor (now (samples .entry)) width height (length (now (out .entry))) options) (now (samples .entry)) width height (wordOfNumber options .options) (now (out .entry)) ⌝ }
     ensures written { λ _. ⌜ now (written .exit) ≡ writtenAfter (tileFor (now (samples .entry)) width height (length (now (out .entry))) options) (now (written .entry)) ⌝ }
     ensures nan { λ _. ⌜ now (nan .exit) ≡ nanAfter (ofTiled (tileFor (now (samples .entry)) width height (length (now (out .entry))) options)) (now (nan .entry)) ⌝ }
 {

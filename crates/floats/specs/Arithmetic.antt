@@ -38,6 +38,9 @@ half = bits 0x3f00_0000
 abbrev pub f1 : Float
 f1 = bits 0x3f80_0000
 
+abbrev pub f2 : Float
+f2 = bits 0x4000_0000
+
 abbrev pub f254 : Float
 f254 = bits 0x437e_0000
 

@@ -95,7 +95,7 @@ pub extern "C" fn inner_byte_up_to_7(x: f32) -> u32
 
 #[no_mangle]
 pub extern "C" fn inner_n8_f32(x: u8) -> f32
-    ensures { λ r. ⌜ r ≡ valueOf false x ⌝ }
+    ensures { λ r. ⌜ r ≡ valueOf x false ⌝ }
 {
     values::n8::f32(x)
 }
@@ -109,7 +109,7 @@ pub extern "C" fn inner_norm(x: u8) -> u8
 
 #[no_mangle]
 pub extern "C" fn inner_uf32(x: u8) -> f32
-    ensures { λ r. ⌜ r ≡ valueOf true x ⌝ }
+    ensures { λ r. ⌜ r ≡ valueOf x true ⌝ }
 {
     values::s8::uf32(x)
 }

@@ -9,11 +9,11 @@ use Rattle.bc4.specs.declared.Encoded.{Encoded}
 use Rattle.bc4.specs.declared.Encoded.the-variants.{Block, Refused}
 use Rattle.refusal.specs.Refusals.{numberOf}
 use Rattle.bc4.specs.Word.{encodeByWord}
-use Rattle.lines.specs.Input.{wordIn, samplesOf}
+use Rattle.lines.specs.Input.{recordWord, samplesOf}
 use Rattle.lines.specs.Output.{hexLine, refusedLine, shortLine}
 
 abbrev pub answerOf : List ℕ → Encoded
-answerOf bytes = encodeByWord (samplesOf bytes) (wordIn bytes)
+answerOf bytes = encodeByWord (samplesOf bytes) (recordWord bytes)
 
 unfoldable pub lineOf : Encoded → List ℕ
 lineOf (Block b) = hexLine b
@@ -33,7 +33,7 @@ unfoldable pub textOf : List ℕ → List ℕ
 textOf input = linesTo input (length input / 68) ++ cond (eqb (length input % 68) 0) [] shortLine
 
 -- A text of n bytes stands at the start, and the bytes after it are as before.
-pub record Written (text before after : List ℕ) (n : ℕ) : Type 0 where
+pub record AtStart (text before after : List ℕ) (n : ℕ) : Type 0 where
   pub within : n ≤ length after
   pub start : take n after ≡ text
   pub rest : drop n after ≡ drop n before

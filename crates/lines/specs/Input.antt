@@ -13,8 +13,8 @@ use Rattle.bc4.specs.Word.{wordOf}
 abbrev pub recordByte : List ℕ → ℕ → ℕ
 recordByte bytes k = getD bytes k 0
 
-abbrev pub wordIn : List ℕ → Word
-wordIn bytes = wordOf (recordByte bytes 0) (recordByte bytes 1) (recordByte bytes 2) (recordByte bytes 3)
+abbrev pub recordWord : List ℕ → Word
+recordWord bytes = wordOf (recordByte bytes 0) (recordByte bytes 1) (recordByte bytes 2) (recordByte bytes 3)
 
 -- ---- the samples
 

@@ -3,13 +3,13 @@ ghost use mathlib.Core.Path.{_≡_};
 ghost use Prim.Native.Nat.{_+_, _<_, _≤_};
 ghost use lib.ListN.{length};
 ghost use lib.Ieee.{binary32, ofBits};
-ghost use Rattle.lines.specs.Input.{wordIn, fourBytes, patternAt, samplesOf};
+ghost use Rattle.lines.specs.Input.{recordWord, fourBytes, patternAt, samplesOf};
 use bc4::word::Word;
 
 // The first four bytes.
 pub fn read_word(bytes: &[u8]) -> Word
     requires { ⌜ length (now bytes) ≡ 68 ⌝ }
-    ensures { λ r. ⌜ r ≡ wordIn (now (bytes .entry)) ⌝ }
+    ensures { λ r. ⌜ r ≡ recordWord (now (bytes .entry)) ⌝ }
 {
     bc4::word::read(bytes[0], bytes[1], bytes[2], bytes[3])
 }

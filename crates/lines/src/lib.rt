@@ -3,7 +3,7 @@ ghost use mathlib.Core.Path.{_≡_};
 ghost use Prim.Native.Nat.{_+_, _*_, _/_, _≤_};
 ghost use lib.ListN.{length};
 ghost use lib.Seq.{paste};
-ghost use Rattle.lines.specs.Answers.{answerOf, lineOf, linesTo, textOf, Written};
+ghost use Rattle.lines.specs.Answers.{answerOf, lineOf, linesTo, textOf, AtStart};
 ghost use Rattle.lines.specs.Output.{Holds};
 
 pub mod input;
@@ -44,7 +44,7 @@ fn copy(out: &mut [u8], at: usize, source: &[u8], n: usize)
 // The lines of all whole records of `input`, at the start of `out`: how many bytes they take. Later bytes stay.
 fn lines(input: &[u8], out: &mut [u8]) -> usize
     requires { ⌜ length (now input) / 68 * 17 ≤ length (now out) ⌝ }
-    ensures { λ r. ⌜ Written (linesTo (now (input .entry)) (length (now (input .entry)) / 68)) (now (out .entry)) (now (out .exit)) r ⌝ }
+    ensures { λ r. ⌜ AtStart (linesTo (now (input .entry)) (length (now (input .entry)) / 68)) (now (out .entry)) (now (out .exit)) r ⌝ }
 {
     let mut at = 0;
     for i in 0..input.len() / 68 {
@@ -61,7 +61,7 @@ fn lines(input: &[u8], out: &mut [u8]) -> usize
 // longest line of each record and for `short`.
 pub fn text(input: &[u8], out: &mut [u8]) -> usize
     requires { ⌜ length (now input) / 68 * 17 + 6 ≤ length (now out) ⌝ }
-    ensures { λ r. ⌜ Written (textOf (now (input .entry))) (now (out .entry)) (now (out .exit)) r ⌝ }
+    ensures { λ r. ⌜ AtStart (textOf (now (input .entry))) (now (out .entry)) (now (out .exit)) r ⌝ }
 {
     let at = lines(input, out);
     if input.len() % 68 == 0 {

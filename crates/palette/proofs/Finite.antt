@@ -106,12 +106,12 @@ error-within kind b c0 c1 h0 h1 u =
     (λ i h. miss-within (valuesOf kind c0 c1) (pixelAt b i) (values-near kind c0 c1 h0 h1) (unit-within (pixelAt b i) (u .from-0 i h) (u .to-1 i h)))
 
 -- the float of an endpoint byte, in either format
-pub value-within : (snorm : Bool) (byte : ℕ) → byte < 256 → Within 1 (valueOf snorm byte)
-value-within snorm byte h = let u = levelValue-unit snorm (levelOf snorm byte) (level-le snorm byte h) in unit-within (valueOf snorm byte) (u .0) (u .1)
+pub value-within : (snorm : Bool) (byte : ℕ) → byte < 256 → Within 1 (valueOf byte snorm)
+value-within snorm byte h = let u = levelValue-unit snorm (levelOf byte snorm) (level-le snorm byte h) in unit-within (valueOf byte snorm) (u .0) (u .1)
 
 -- The palette error of byte endpoints, at samples as entry leaves them.
-pub byte-error-within : (kind : Kind) (snorm : Bool) (b : List Float) (c0 c1 : ℕ) → c0 < 256 → c1 < 256 → InUnit b → Within 256 (paletteError kind b (valueOf snorm c0) (valueOf snorm c1))
-byte-error-within kind snorm b c0 c1 h0 h1 u = error-within kind b (valueOf snorm c0) (valueOf snorm c1) (value-within snorm c0 h0) (value-within snorm c1 h1) u
+pub byte-error-within : (kind : Kind) (snorm : Bool) (b : List Float) (c0 c1 : ℕ) → c0 < 256 → c1 < 256 → InUnit b → Within 256 (paletteError kind b (valueOf c0 snorm) (valueOf c1 snorm))
+byte-error-within kind snorm b c0 c1 h0 h1 u = error-within kind b (valueOf c0 snorm) (valueOf c1 snorm) (value-within snorm c0 h0) (value-within snorm c1 h1) u
 
 -- ---- never negative
 plain-sum : (a b c d : Float) → Plain a → Plain b → Plain c → Plain d → Plain (a ⊕ b ⊕ c ⊕ d)

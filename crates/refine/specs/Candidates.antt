@@ -29,7 +29,7 @@ closerPairs min max = (min ⊕ quantStep, max) ∷ (min, max ⊖ quantStep) ∷ 
 
 -- let q = EndPoints::quantize(pair, options.snorm); the better of it and what is held
 abbrev pub triedPair : Kind → List Float → Bool → Held → Float × Float → Held
-triedPair kind b snorm h (e0, e1) = betterPair kind b h (quantized snorm e0 e1)
+triedPair kind b snorm h (e0, e1) = betterPair kind b h (quantized e0 e1 snorm)
 
 abbrev pub highListed : Kind → List Float → Bool → Pair → Held
 highListed kind b snorm p = foldl (triedPair kind b snorm) (heldPair kind b (quantizedPair snorm p)) (closerPairs (p .0) (p .1))

@@ -29,7 +29,7 @@ leastStep fast = cond fast (bits 0x3b80_8081) (bits 0x3b00_8081)
 
 -- ---- step 2
 abbrev pub quantizedPair : Bool → Pair → Pair
-quantizedPair snorm p = quantized snorm (p .0) (p .1)
+quantizedPair snorm p = quantized (p .0) (p .1) snorm
 
 abbrev pub heldPair : Kind → List Float → Pair → Held
 heldPair kind b p = held kind b (p .0) (p .1)
@@ -68,7 +68,7 @@ quantizing MediumQuality kind b snorm p = pairOf (medium kind b snorm p)
 quantizing HighQuality kind b snorm p = pairOf (highTo kind b snorm p 3)
 
 -- ---- both steps
-unfoldable pub refinedEnds : Kind → List Float → Options → Pair → Pair
-refinedEnds kind b o p =
+unfoldable pub refinedEnds : Kind → List Float → Pair → Options → Pair
+refinedEnds kind b p o =
     quantizing (o .quantization) kind b (o .snorm)
     (refined kind b (leastStep (o .«fast_iter»)) (o .«max_refine_iter») (firstStep (o .«fast_iter») (p .0) (p .1)) (p .0) (p .1))

@@ -107,7 +107,7 @@ fn least_step(fast: bool) -> f32
 }
 
 pub fn refine_endpoints(kind: Kind, b: &[f32; 16], min: f32, max: f32, o: Options) -> Pair
-    ensures { λ r. ⌜ r ≡ refinedEnds kind (now (b .entry)) o (record { 0 = min; 1 = max }) ⌝ }
+    ensures { λ r. ⌜ r ≡ refinedEnds kind (now (b .entry)) (record { 0 = min; 1 = max }) o ⌝ }
 {
     let least = least_step(o.fast_iter);
     let step = first_step(o.fast_iter, min, max);

@@ -30,34 +30,34 @@ use Rattle.palette.specs.Palettes.{entry, seventh, fifth1, fifth2, fifth3, fift
 use Rattle.search.specs.Floor.{margin}
 
 pub record Between (min max : ℕ) (v : Float) : Type 0 where
-  pub from-min : le (valueOf false min ⊖ margin) v ≡ true
-  pub to-max : le v (valueOf false max ⊕ margin) ≡ true
+  pub from-min : le (valueOf min false ⊖ margin) v ≡ true
+  pub to-max : le v (valueOf max false ⊕ margin) ≡ true
 
-lo-hi : (min max : ℕ) → min < max → max ≤ 255 → le (valueOf false min) (valueOf false max) ≡ true
-lo-hi min max h l = le-of-lt (valueOf false min) (valueOf false max) (levelValue-lt false min max h l)
+lo-hi : (min max : ℕ) → min < max → max ≤ 255 → le (valueOf min false) (valueOf max false) ≡ true
+lo-hi min max h l = le-of-lt (valueOf min false) (valueOf max false) (levelValue-lt false min max h l)
 
 -- ---- the ends, and four values: a sum of parts grows with either end, and where both ends are one level a test of each level shows it
 abbrev blend : Float → Float → ℕ → Float
-blend v w n = levelValue false n ⊗ v ⊕ levelValue false n ⊗ w
+blend v w n = levelValue n false ⊗ v ⊕ levelValue n false ⊗ w
 
 abbrev close : (ℕ → Float) → ℕ → Bool
-close g n = both (le (levelValue false n ⊖ margin) (g n)) (le (g n) (levelValue false n ⊕ margin))
+close g n = both (le (levelValue n false ⊖ margin) (g n)) (le (g n) (levelValue n false ⊕ margin))
 
 abbrev fine : Float → Float → ℕ → Bool
-fine v w n = both (both (finite (levelValue false n ⊗ v)) (finite (levelValue false n ⊗ w))) (close (blend v w) n)
+fine v w n = both (both (finite (levelValue n false ⊗ v)) (finite (levelValue n false ⊗ w))) (close (blend v w) n)
 
-every-level : T (all (close (levelValue false)) 256) × T (all (fine fifth4 fifth1) 256) × T (all (fine fifth3 fifth2) 256) × T (all (fine fifth2 fifth3) 256) × T (all (fine fifth1 fifth4) 256)
+every-level : T (all (close (λ (n : ℕ). levelValue n false)) 256) × T (all (fine fifth4 fifth1) 256) × T (all (fine fifth3 fifth2) 256) × T (all (fine fifth2 fifth3) 256) × T (all (fine fifth1 fifth4) 256)
 unfolding levelValue add sub mul div le ofInt ofBits
 every-level = (tt, tt, tt, tt, tt)
 
-close-at : (g : ℕ → Float) (n : ℕ) → T (close g n) → (le (valueOf false n ⊖ margin) (g n) ≡ true) × (le (g n) (valueOf false n ⊕ margin) ≡ true)
+close-at : (g : ℕ → Float) (n : ℕ) → T (close g n) → (le (valueOf n false ⊖ margin) (g n) ≡ true) × (le (g n) (valueOf n false ⊕ margin) ≡ true)
 close-at g n t =
-    let low = le (valueOf false n ⊖ margin) (g n) in
-    let high = le (g n) (valueOf false n ⊕ margin) in
+    let low = le (valueOf n false ⊖ margin) (g n) in
+    let high = le (g n) (valueOf n false ⊕ margin) in
     (is-true low (both-left low high t), is-true high (both-right low high t))
 
-level-close : (n : ℕ) → n ≤ 255 → (le (valueOf false n ⊖ margin) (valueOf false n) ≡ true) × (le (valueOf false n) (valueOf false n ⊕ margin) ≡ true)
-level-close n h = close-at (levelValue false) n (at (close (levelValue false)) 256 (every-level .0) n (omega arith))
+level-close : (n : ℕ) → n ≤ 255 → (le (valueOf n false ⊖ margin) (valueOf n false) ≡ true) × (le (valueOf n false) (valueOf n false ⊕ margin) ≡ true)
+level-close n h = close-at (λ (n : ℕ). levelValue n false) n (at (close (λ (n : ℕ). levelValue n false)) 256 (every-level .0) n (omega arith))
 
 part-mono : (v x y : Float) → T (positive v) → le x y ≡ true → le (x ⊗ v) (y ⊗ v) ≡ true
 part-mono v x y p h = rw (f-comm binary32 x v, f-comm binary32 y v) (mul-mono binary32 v x y p h)
@@ -67,22 +67,22 @@ module _ (v w : Float) (every : T (all (fine v w) 256)) (n : ℕ) (h : n ≤ 255
   fine-at = at (fine v w) 256 every n (omega arith)
 
   abbrev sizes : Bool
-  sizes = both (finite (levelValue false n ⊗ v)) (finite (levelValue false n ⊗ w))
+  sizes = both (finite (levelValue n false ⊗ v)) (finite (levelValue n false ⊗ w))
 
-  finite-v : T (finite (valueOf false n ⊗ v))
-  finite-v = both-left (finite (levelValue false n ⊗ v)) (finite (levelValue false n ⊗ w)) (both-left sizes (close (blend v w) n) fine-at)
+  finite-v : T (finite (valueOf n false ⊗ v))
+  finite-v = both-left (finite (levelValue n false ⊗ v)) (finite (levelValue n false ⊗ w)) (both-left sizes (close (blend v w) n) fine-at)
 
-  finite-w : T (finite (valueOf false n ⊗ w))
-  finite-w = both-right (finite (levelValue false n ⊗ v)) (finite (levelValue false n ⊗ w)) (both-left sizes (close (blend v w) n) fine-at)
+  finite-w : T (finite (valueOf n false ⊗ w))
+  finite-w = both-right (finite (levelValue n false ⊗ v)) (finite (levelValue n false ⊗ w)) (both-left sizes (close (blend v w) n) fine-at)
 
-  blend-close : (le (valueOf false n ⊖ margin) (blend v w n) ≡ true) × (le (blend v w n) (valueOf false n ⊕ margin) ≡ true)
+  blend-close : (le (valueOf n false ⊖ margin) (blend v w n) ≡ true) × (le (blend v w n) (valueOf n false ⊕ margin) ≡ true)
   blend-close = close-at (blend v w) n (both-right sizes (close (blend v w) n) fine-at)
 
 four-between : (min max : ℕ) → min < max → max ≤ 255 → (v w : Float) → T (positive v) → T (positive w) → T (all (fine v w) 256)
-    → Between min max (valueOf false min ⊗ v ⊕ valueOf false max ⊗ w)
+    → Between min max (valueOf min false ⊗ v ⊕ valueOf max false ⊗ w)
 four-between min max h l v w p q every =
-    let lo = valueOf false min in
-    let hi = valueOf false max in
+    let lo = valueOf min false in
+    let hi = valueOf max false in
     let m : min ≤ 255 = omega arith in
     let i : le lo hi ≡ true = lo-hi min max h l in
     let under : le (blend v w min) (lo ⊗ v ⊕ hi ⊗ w) ≡ true =
@@ -96,7 +96,7 @@ four-between min max h l v w p q every =
 -- ---- six values. In units of binary32's smallest, 2 ^ -149: hi is a and lo is b, d is their difference rounded, and p a part of d rounded. `t` is
 -- 2 ^ 123 units, 1 is 67108864 * t, and the margin 16 * t; it stays a variable wherever `omega` is used.
 abbrev End : ℕ → Type 0
-End n = Rounds (valueOf false n) false (n * 2 ^ 149) 255 125
+End n = Rounds (valueOf n false) false (n * 2 ^ 149) 255 125
 
 end-at : (n : ℕ) → n ≤ 255 → End n
 unfolding levelValue
@@ -137,11 +137,11 @@ unfolding ofBits
 margin-units = (refl, refl)
 
 module _ (min max : ℕ) (h : min < max) (l : max ≤ 255) where
-  part-between : (v : Float) (q c : ℕ) → 0 < c → q ≤ c → HasValue v false q c → Between min max (towards (valueOf false max) (valueOf false min) v)
+  part-between : (v : Float) (q c : ℕ) → 0 < c → q ≤ c → HasValue v false q c → Between min max (towards (valueOf max false) (valueOf min false) v)
   part-between v q c C k val =
       let t = 2 ^ 123 in
-      let lo = valueOf false min in
-      let hi = valueOf false max in
+      let lo = valueOf min false in
+      let hi = valueOf max false in
       let a : End max = end-at max l in
       let b : End min = end-at min (omega arith) in
       let i : b .n < a .n = apart t max min (a .n) (b .n) (pow-pos 123) h (a .off) (b .off) in
@@ -156,20 +156,20 @@ module _ (min max : ℕ) (h : min < max) (l : max ≤ 255) where
             (a .val) (p .val) (a .val) margin-units (difference-leq (a .n) (p .n) (a .n + 16 * t) (six-high (a .n) (p .n) (16 * t)));
       }
 
-  six-between : (v : Float) → Plain v → Within 1 v → Between min max (towards (valueOf false max) (valueOf false min) v)
+  six-between : (v : Float) → Plain v → Within 1 v → Between min max (towards (valueOf max false) (valueOf min false) v)
   six-between nan s k = absurd k
   six-between (inf s) e k = absurd k
   six-between (fin true m e) s k = clash refl s
   six-between (fin false m e) s k = part-between (fin false m e) (m * up e) (down e) (down-pos e) (le-trans k (le-of-eq (one-mul (down e)))) (refl, refl)
 
   -- ---- all of them
-  lo-between : Between min max (valueOf false min)
-  lo-between = record { from-min = level-close min (omega arith) .0; to-max = f-trans (valueOf false min) (valueOf false max) _ (lo-hi min max h l) (level-close max l .1) }
+  lo-between : Between min max (valueOf min false)
+  lo-between = record { from-min = level-close min (omega arith) .0; to-max = f-trans (valueOf min false) (valueOf max false) _ (lo-hi min max h l) (level-close max l .1) }
 
-  hi-between : Between min max (valueOf false max)
-  hi-between = record { from-min = f-trans _ (valueOf false min) (valueOf false max) (level-close min (omega arith) .0) (lo-hi min max h l); to-max = level-close max l .1 }
+  hi-between : Between min max (valueOf max false)
+  hi-between = record { from-min = f-trans _ (valueOf min false) (valueOf max false) (level-close min (omega arith) .0) (lo-hi min max h l); to-max = level-close max l .1 }
 
-  pub six-values : (k : ℕ) → k < 8 → Between min max (entry (values6 (valueOf false max) (valueOf false min)) k)
+  pub six-values : (k : ℕ) → k < 8 → Between min max (entry (values6 (valueOf max false) (valueOf min false)) k)
   unfolding values6 ofBits
   six-values zero i = hi-between
   six-values (suc zero) i = six-between seventh refl (lit≤ tt)
@@ -182,7 +182,7 @@ module _ (min max : ℕ) (h : min < max) (l : max ≤ 255) where
   six-values (suc (suc (suc (suc (suc (suc (suc (suc k)))))))) i = absurd (omega arith)
 
   -- past 0 and 1
-  pub four-values : (k : ℕ) → k < 6 → Between min max (entry (values4 (valueOf false min) (valueOf false max)) (suc (suc k)))
+  pub four-values : (k : ℕ) → k < 6 → Between min max (entry (values4 (valueOf min false) (valueOf max false)) (suc (suc k)))
   unfolding values4 colors ofBits
   four-values zero i = lo-between
   four-values (suc zero) i = hi-between

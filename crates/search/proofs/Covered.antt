@@ -8,7 +8,7 @@ use Prim.Native.Nat.{ℕ, _*_, _≤_, _<_}
 use native.Mathlib.Nat.{mul-comm}
 use native.Mathlib.Omega.{arith}
 use lib.Ieee.{Float, nan, inf, fin, up, down, binary32, lt, le, ofBits, add, mul, toUnsigned}
-use Rattle.floats.specs.Arithmetic.{_⊕_, _⊗_, bits, f0, f255}
+use Rattle.floats.specs.Arithmetic.{_⊕_, _⊗_, f0, f2, f255}
 use Rattle.floats.specs.Bounds.{Within}
 use Rattle.floats.proofs.Tests.{clash}
 use Rattle.floats.proofs.Casts.{byteOf-mono, byteOf-le}
@@ -25,7 +25,7 @@ use Rattle.palette.proofs.Finite.{byte-error-within}
 use Rattle.coding.specs.declared.Coded.{Coded}
 use Rattle.coding.specs.Coding.{ended6, ended4}
 use Rattle.search.specs.Search.{pairTried, firstMax, minsTried, minLimit, leastMax, searched}
-use Rattle.search.specs.Covered.{Covered, endsOf, pairError, pairBytes, Written}
+use Rattle.search.specs.Covered.{Covered, endsOf, pairError, pairBytes, OfPair}
 use Rattle.search.proofs.EveryPair.{NotBelow, kept-one, candidate, pair-is, mins-keep, mins-below, first-le, first-from}
 
 -- ---- at least one pair is covered: (0, 255)
@@ -44,8 +44,8 @@ limit-from-0 = refl
 limit-mono : (x y : Float) → le x y ≡ true → minLimit x ≤ minLimit y
 limit-mono x y h =
     rw (scaled x, scaled y)
-    (byteOf-mono (f255 ⊗ x ⊕ bits 0x4000_0000) (f255 ⊗ y ⊕ bits 0x4000_0000)
-    (add-mono binary32 (bits 0x4000_0000) (f255 ⊗ x) (f255 ⊗ y) (unfold ofBits in tt) (mul-mono binary32 f255 x y (unfold ofBits in tt) h)))
+    (byteOf-mono (f255 ⊗ x ⊕ f2) (f255 ⊗ y ⊕ f2)
+    (add-mono binary32 f2 (f255 ⊗ x) (f255 ⊗ y) (unfold ofBits in tt) (mul-mono binary32 f255 x y (unfold ofBits in tt) h)))
 
 module _ (b : List Float) (u : InUnit b) where
   pub covered-some : Covered b 0 255
@@ -74,7 +74,7 @@ module _ (b : List Float) (u : InUnit b) where
 
   -- of a covered pair, with its error
   abbrev Found : Coded → Type 0
-  Found h = (w : Written b (h .bytes)) × (h .error ≡ pairError (w .kind) b (w .min) (w .max))
+  Found h = (w : OfPair b (h .bytes)) × (h .error ≡ pairError (w .kind) b (w .min) (w .max))
 
   found-one : Found found
   found-one =
@@ -101,7 +101,7 @@ module _ (b : List Float) where
   pair-ends Six min max c = packed-ends max min _ (omega (arith, c .max-to)) (omega (arith, c .max-to, c .apart))
   pair-ends Four min max c = packed-ends min max _ (omega (arith, c .max-to, c .apart)) (omega (arith, c .max-to))
 
-  pub written-ends : (n : ℕ) (w : Written b n)
+  pub written-ends : (n : ℕ) (w : OfPair b n)
       → (byteAt n 0 ≡ endsOf (w .kind) (w .min) (w .max) .c0) × (byteAt n 1 ≡ endsOf (w .kind) (w .min) (w .max) .c1)
   written-ends n w =
       let e = pair-ends (w .kind) (w .min) (w .max) (w .covered) in
@@ -115,7 +115,7 @@ module _ (b : List Float) where
   ends-error Four Six i j m n h k p q = absurd (omega arith)
   ends-error Four Four i j m n h k p q = rw (p, q)
 
-  written-error : (n : ℕ) (v w : Written b n) → pairError (v .kind) b (v .min) (v .max) ≡ pairError (w .kind) b (w .min) (w .max)
+  written-error : (n : ℕ) (v w : OfPair b n) → pairError (v .kind) b (v .min) (v .max) ≡ pairError (w .kind) b (w .min) (w .max)
   written-error n v w =
       let e = written-ends n v in
       let f = written-ends n w in
@@ -124,12 +124,12 @@ module _ (b : List Float) where
 
 module _ (b : List Float) (u : InUnit b) where
   -- The search writes a covered pair in one of the modes,
-  pub search-written : Written b (searched b (minMax b))
+  pub search-written : OfPair b (searched b (minMax b))
   unfolding searched minMax
   search-written = found-one b u .0
 
   -- and no covered pair in either mode has a smaller palette error than the pair written.
-  pub search-none-smaller : (w : Written b (searched b (minMax b))) (kind : Kind) (min max : ℕ) → Covered b min max
+  pub search-none-smaller : (w : OfPair b (searched b (minMax b))) (kind : Kind) (min max : ℕ) → Covered b min max
       → lt (pairError kind b min max) (pairError (w .kind) b (w .min) (w .max)) ≡ false
   unfolding search-written
   search-none-smaller w kind min max c =

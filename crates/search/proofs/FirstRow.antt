@@ -44,14 +44,14 @@ not-below-larger e a c p q = go (lt c a)
     go false = q
 
 module _ (b : List Float) (min : ℕ) where
-  pub pair-row : (max : ℕ) (kind : Kind) → lt (pairError kind b min max) (rowFloor b (valueOf false min) (valueOf false max)) ≡ false
+  pub pair-row : (max : ℕ) (kind : Kind) → lt (pairError kind b min max) (rowFloor b (valueOf min false) (valueOf max false)) ≡ false
   unfolding rowFloor ofBytes
   pair-row max Six =
-      not-below-lesser _ (firstRowError Six b (valueOf false max) (valueOf false min)) (firstRowError Four b (valueOf false min) (valueOf false max))
-      (inl (row-floor Six b (valueOf false max) (valueOf false min)))
+      not-below-lesser _ (firstRowError Six b (valueOf max false) (valueOf min false)) (firstRowError Four b (valueOf min false) (valueOf max false))
+      (inl (row-floor Six b (valueOf max false) (valueOf min false)))
   pair-row max Four =
-      not-below-lesser _ (firstRowError Six b (valueOf false max) (valueOf false min)) (firstRowError Four b (valueOf false min) (valueOf false max))
-      (inr (row-floor Four b (valueOf false min) (valueOf false max)))
+      not-below-lesser _ (firstRowError Six b (valueOf max false) (valueOf min false)) (firstRowError Four b (valueOf min false) (valueOf max false))
+      (inr (row-floor Four b (valueOf min false) (valueOf max false)))
 
   -- ---- as the code raises them
   pub floors-start : Floors b min (maxFloors b)
@@ -61,7 +61,7 @@ module _ (b : List Float) (min : ℕ) where
   }
 
   pub floors-raised : (out : List Float) (at : ℕ) (v : Float) → Floors b min out → at < 256
-      → v ≡ laneMax (getD out at nan) (rowFloor b (valueOf false min) (valueOf false at)) → Floors b min (set out at v)
+      → v ≡ laneMax (getD out at nan) (rowFloor b (valueOf min false) (valueOf at false)) → Floors b min (set out at v)
   floors-raised out at v f a e = record {
     size = simp length-set (f .size);
     each = λ max h l kind. dite (ℕ-discrete max at) (λ k. own max k h l kind) (λ k. rw (getD-set-other out at max v nan k) (f .each max h l kind));

@@ -68,21 +68,21 @@ module _ (b : List Float) (min max : ℕ) (h : min < max) (l : max ≤ 255) wher
     far : (v p : Float) → Between min max v → lt (squared (v ⊖ p)) (atLeast (beyond low high p) p) ≡ false
     far v p w = from-value (beyond low high p) p (squared (v ⊖ p)) (beyond-far low high v p (from v w) (to v w))
 
-    each-four : (k : ℕ) (p : Float) → k < 8 → lt (squared (entry (values4 (valueOf false min) (valueOf false max)) k ⊖ p)) (atLeast (beyond low high p) p) ≡ false
+    each-four : (k : ℕ) (p : Float) → k < 8 → lt (squared (entry (values4 (valueOf min false) (valueOf max false)) k ⊖ p)) (atLeast (beyond low high p) p) ≡ false
     each-four zero p i = unfold values4 in from-0 (beyond low high p) p
     each-four (suc zero) p i = unfold values4 in from-1 (beyond low high p) p
     each-four (suc (suc k)) p i = far _ p (four-values min max h l k (omega arith))
 
     pair-floor : (kind : Kind) → lt (pairError kind b min max) (floorOf b low high) ≡ false
     unfolding floorOf ofBytes valuesOf
-    pair-floor Six = error-floor Six b (valueOf false max) (valueOf false min) _ (λ i. plain _ _) (λ i k j m. far _ (pixelAt b i) (six-values min max h l k m))
-    pair-floor Four = error-floor Four b (valueOf false min) (valueOf false max) _ (λ i. plain _ _) (λ i k j m. each-four k (pixelAt b i) m)
+    pair-floor Six = error-floor Six b (valueOf max false) (valueOf min false) _ (λ i. plain _ _) (λ i k j m. far _ (pixelAt b i) (six-values min max h l k m))
+    pair-floor Four = error-floor Four b (valueOf min false) (valueOf max false) _ (λ i. plain _ _) (λ i k j m. each-four k (pixelAt b i) m)
 
   pub min-floor : (kind : Kind) → lt (pairError kind b min max) (minFloor b min) ≡ false
-  min-floor = pair-floor (valueOf false min ⊖ margin) (inf false) (λ v w. w .from-min) (λ v w. to-top v (le-right _ v (w .from-min)))
+  min-floor = pair-floor (valueOf min false ⊖ margin) (inf false) (λ v w. w .from-min) (λ v w. to-top v (le-right _ v (w .from-min)))
 
   pub max-floor : (kind : Kind) → lt (pairError kind b min max) (maxFloor b max) ≡ false
-  max-floor = pair-floor (inf true) (valueOf false max ⊕ margin) (λ v w. from-bottom v (le-left v _ (w .to-max))) (λ v w. w .to-max)
+  max-floor = pair-floor (inf true) (valueOf max false ⊕ margin) (λ v w. from-bottom v (le-left v _ (w .to-max))) (λ v w. w .to-max)
 
 -- ---- passing over
 module _ (b : List Float) where

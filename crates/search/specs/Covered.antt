@@ -23,8 +23,8 @@ pub record Covered (b : List Float) (min max : ℕ) : Type 0 where
 
 -- the pair in a mode: six values want c0 above c1, four the other order
 abbrev pub endsOf : Kind → ℕ → ℕ → EndPoints
-endsOf Six min max = ofBytes false max min
-endsOf Four min max = ofBytes false min max
+endsOf Six min max = ofBytes max min false
+endsOf Four min max = ofBytes min max false
 
 -- the palette error of the floats of its bytes
 abbrev pub pairError : Kind → List Float → ℕ → ℕ → Float
@@ -36,7 +36,7 @@ pairBytes Six b min max = ended6 b false (endsOf Six min max) .bytes
 pairBytes Four b min max = ended4 b false (endsOf Four min max) .bytes
 
 -- n is the block of a covered pair in a mode
-pub record Written (b : List Float) (n : ℕ) : Type 0 where
+pub record OfPair (b : List Float) (n : ℕ) : Type 0 where
   pub kind : Kind
   pub min : ℕ
   pub max : ℕ

@@ -34,10 +34,10 @@ floorOf b low high = sumInOrder (perPixel (λ i. atLeast (beyond low high (pixel
 
 -- for all pairs with this min, and for all with this max
 abbrev pub minFloor : List Float → ℕ → Float
-minFloor b min = floorOf b (valueOf false min ⊖ margin) (inf false)
+minFloor b min = floorOf b (valueOf min false ⊖ margin) (inf false)
 
 abbrev pub maxFloor : List Float → ℕ → Float
-maxFloor b max = floorOf b (inf true) (valueOf false max ⊕ margin)
+maxFloor b max = floorOf b (inf true) (valueOf max false ⊕ margin)
 
 abbrev pub maxFloors : List Float → List Float
 maxFloors b = tabulate (maxFloor b) 0 256

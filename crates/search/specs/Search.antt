@@ -4,7 +4,7 @@ use mathlib.Core.Bool.{false, cond}
 use Prim.Native.Nat.{ℕ, zero, suc, _+_, _-_}
 use lib.Dec.{ltb}
 use lib.Ieee.{Float, inf, lt}
-use Rattle.floats.specs.Arithmetic.{_⊕_, _⊖_, _⊗_, bits, f1}
+use Rattle.floats.specs.Arithmetic.{_⊕_, _⊖_, _⊗_, f1, f2, f255}
 use Rattle.floats.specs.Helpers.{byteOf}
 use Rattle.floats.specs.declared.Pair.{Pair}
 use Rattle.end_points.specs.declared.EndPoints.{EndPoints}
@@ -27,7 +27,7 @@ tried4 b best e =
 
 -- one pair: six values, then four
 unfoldable pub pairTried : List Float → Coded → ℕ → ℕ → Coded
-pairTried b best min max = let e = ofBytes false max min in tried4 b (tried6 b best e) (exchanged e)
+pairTried b best min max = let e = ofBytes max min false in tried4 b (tried6 b best e) (exchanged e)
 
 -- min with n values of max, from `first` on
 unfoldable pub maxesTried : List Float → Coded → ℕ → ℕ → ℕ → Coded
@@ -44,10 +44,10 @@ minsTried b least best zero = best
 minsTried b least best (suc n) = maxesTried b (minsTried b least best n) n (firstMax least n) (256 - firstMax least n)
 
 abbrev pub minLimit : Float → ℕ
-minLimit largest = byteOf (largest ⊗ bits 0x437f_0000 ⊕ bits 0x4000_0000)
+minLimit largest = byteOf (largest ⊗ f255 ⊕ f2)
 
 abbrev pub leastMax : Float → ℕ
-leastMax smallest = byteOf (smallest ⊗ bits 0x437f_0000 ⊖ f1)
+leastMax smallest = byteOf (smallest ⊗ f255 ⊖ f1)
 
 unfoldable pub searched : List Float → Pair → ℕ
 searched b p = minsTried b (leastMax (p .0)) (record { bytes = 0; error = inf false }) (minLimit (p .1)) .bytes

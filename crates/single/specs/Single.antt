@@ -14,25 +14,25 @@ use Rattle.palette.specs.Closest.{closest6, closest4}
 use Rattle.coding.specs.Coding.{coded6}
 
 -- BC4_EPSILON, 1 / 65536
-abbrev pub epsilon : Float
-epsilon = bits 0x3780_0000
+abbrev pub bc4Epsilon : Float
+bc4Epsilon = bits 0x3780_0000
 
 -- the same index everywhere
 abbrev pub uniform : EndPoints → ℕ → ℕ
 uniform e k = packed (e .c0) (e .c1) (filledTo (λ i. k) 16)
 
 -- the nearer of the two palettes around v, the six-value one if neither is
-unfoldable pub nearest : Bool → Float → ℕ
-nearest snorm v =
-    let e6 = inter6 snorm v v in
-    let e4 = inter4 snorm v v in
+unfoldable pub nearerPalette : Float → Bool → ℕ
+nearerPalette v snorm =
+    let e6 = inter6 v v snorm in
+    let e4 = inter4 v v snorm in
     let k6 = closest6 (inter6Palette (e6 .«c0_f») (e6 .«c1_f»)) v in
     let k4 = closest4 (colors (e4 .«c0_f») (e4 .«c1_f»)) v in
     cond (lt (k4 .error) (k6 .error)) (uniform e4 (k4 .index)) (uniform e6 (k6 .index))
 
 -- One level if that is near enough; else a dithered block, or the nearest value of a palette.
-unfoldable pub singleColor : Bool → Bool → Float → ℕ
-singleColor snorm dither v =
-    let e = closest snorm v in
-    cond (lt (absOf (e .«c0_f» ⊖ v)) epsilon) (uniform e 0)
-    (cond dither (coded6 (perPixel (λ i. v)) snorm true (record { 0 = v; 1 = v }) .bytes) (nearest snorm v))
+unfoldable pub singleColor : Float → Bool → Bool → ℕ
+singleColor v snorm dither =
+    let e = closest v snorm in
+    cond (lt (absOf (e .«c0_f» ⊖ v)) bc4Epsilon) (uniform e 0)
+    (cond dither (coded6 (perPixel (λ i. v)) snorm true (record { 0 = v; 1 = v }) .bytes) (nearerPalette v snorm))

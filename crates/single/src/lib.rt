@@ -4,7 +4,7 @@ ghost use mathlib.Core.Bool.{true};
 ghost use Prim.Native.Nat.{_<_};
 ghost use lib.Ieee.{le};
 ghost use Rattle.floats.specs.Arithmetic.{f0, f1};
-ghost use Rattle.single.specs.Single.{uniform as uniformOf, nearest as nearestOf, singleColor};
+ghost use Rattle.single.specs.Single.{uniform as uniformOf, nearerPalette, singleColor};
 use end_points::EndPoints;
 use floats::Pair;
 use index_list::IndexList;
@@ -22,8 +22,8 @@ fn uniform(e: EndPoints, k: u8) -> u64
 }
 
 // The more exact of the two palettes.
-fn nearest(value: f32, snorm: bool) -> u64
-    ensures { λ r. ⌜ r ≡ nearestOf snorm value ⌝ }
+fn nearer_palette(value: f32, snorm: bool) -> u64
+    ensures { λ r. ⌜ r ≡ nearerPalette value snorm ⌝ }
 {
     let e6 = EndPoints::new_inter6(value, value, snorm);
     let e4 = EndPoints::new_inter4(value, value, snorm);
@@ -39,7 +39,7 @@ fn nearest(value: f32, snorm: bool) -> u64
 // The value is the middle of two samples, which entry clamped.
 pub fn single_color(value: f32, snorm: bool, dither: bool) -> u64
     requires { ⌜ (le f0 value ≡ true) × (le value f1 ≡ true) ⌝ }
-    ensures { λ r. ⌜ r ≡ singleColor snorm dither value ⌝ }
+    ensures { λ r. ⌜ r ≡ singleColor value snorm dither ⌝ }
 {
     let closest = EndPoints::new_closest(value, snorm);
     if floats::abs(closest.c0_f - value) < BC4_EPSILON {
@@ -48,5 +48,5 @@ pub fn single_color(value: f32, snorm: bool, dither: bool) -> u64
     if dither {
         return coding::coded6(&[value; 16], snorm, true, Pair(value, value)).bytes;
     }
-    nearest(value, snorm)
+    nearer_palette(value, snorm)
 }

@@ -60,7 +60,7 @@ signed-order b c B C = go (ltb b 128) (half b) (ltb c 128) (half c)
     go false (high h) false (high k) = same-tests (255 - c) (255 - b) ((b + 128) % 256) ((c + 128) % 256) (λ x. omega arith) (λ x. omega arith)
 
 -- the bytes of two levels are in the levels' order
-pub level-order : (snorm : Bool) (m n : ℕ) → m < n → n ≤ steps snorm → byteBelow snorm (levelByte snorm m) (levelByte snorm n) ≡ true
+pub level-order : (snorm : Bool) (m n : ℕ) → m < n → n ≤ steps snorm → byteBelow (levelByte m snorm) (levelByte n snorm) snorm ≡ true
 level-order true m n h k = signed-order (fromNorm m) (fromNorm n) (omega arith) (omega arith) ∙ lt-ltb ((fromNorm m + 128) % 256) ((fromNorm n + 128) % 256) (omega arith)
 level-order false m n h k = lt-ltb m n h
 
@@ -68,6 +68,6 @@ level-order false m n h k = lt-ltb m n h
 ltb-asym : (a b : ℕ) → ltb a b ≡ true → ltb b a ≡ false
 ltb-asym a b h = le-ltb b a (omega (arith, ltb-true a b h))
 
-pub byteBelow-asym : (snorm : Bool) (b c : ℕ) → b < 256 → c < 256 → byteBelow snorm b c ≡ true → byteBelow snorm c b ≡ false
+pub byteBelow-asym : (snorm : Bool) (b c : ℕ) → b < 256 → c < 256 → byteBelow b c snorm ≡ true → byteBelow c b snorm ≡ false
 byteBelow-asym true b c B C h = signed-order c b C B ∙ ltb-asym ((b + 128) % 256) ((c + 128) % 256) (sym (signed-order b c B C) ∙ h)
 byteBelow-asym false b c B C h = ltb-asym b c h

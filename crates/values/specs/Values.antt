@@ -21,24 +21,24 @@ normOf b = (b + 128) % 256 - 1
 abbrev pub fromNorm : ℕ → ℕ
 fromNorm n = (n + 1 + (256 - 128)) % 256
 
-abbrev pub levelOf : Bool → ℕ → ℕ
-levelOf snorm b = cond snorm (normOf b) b
+abbrev pub levelOf : ℕ → Bool → ℕ
+levelOf b snorm = cond snorm (normOf b) b
 
-abbrev pub levelByte : Bool → ℕ → ℕ
-levelByte snorm n = cond snorm (fromNorm n) n
+abbrev pub levelByte : ℕ → Bool → ℕ
+levelByte n snorm = cond snorm (fromNorm n) n
 
 -- a level as f32: the fraction rounded once
-unfoldable pub levelValue : Bool → ℕ → Float
-levelValue snorm n = whole n ⊘ whole (steps snorm)
+unfoldable pub levelValue : ℕ → Bool → Float
+levelValue n snorm = whole n ⊘ whole (steps snorm)
 
 -- n8::f32 and s8::uf32
-abbrev pub valueOf : Bool → ℕ → Float
-valueOf snorm b = levelValue snorm (levelOf snorm b)
+abbrev pub valueOf : ℕ → Bool → Float
+valueOf b snorm = levelValue (levelOf b snorm) snorm
 
 -- a byte as a signed number, Rust's `b as i8`
 abbrev pub signedOf : ℕ → ℤ
 signedOf b = cond (ltb b 128) (pos b) (negsuc (255 - b))
 
 -- Order is compared on the bytes as written, signed for snorm: whether a is below b.
-abbrev pub byteBelow : Bool → ℕ → ℕ → Bool
-byteBelow snorm a b = cond snorm (ltZ (signedOf a) (signedOf b)) (ltb a b)
+abbrev pub byteBelow : ℕ → ℕ → Bool → Bool
+byteBelow a b snorm = cond snorm (ltZ (signedOf a) (signedOf b)) (ltb a b)

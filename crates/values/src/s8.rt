@@ -17,14 +17,14 @@ pub fn norm(x: u8) -> u8
 
 // The end of uf32, which has a level already.
 pub fn norm_f32(n: u8) -> f32
-    ensures { λ r. ⌜ r ≡ levelValue true n ⌝ }
+    ensures { λ r. ⌜ r ≡ levelValue n true ⌝ }
 {
     (n as f32 * K0) * K1
 }
 
 // Unsigned f32.
 pub fn uf32(x: u8) -> f32
-    ensures { λ r. ⌜ r ≡ valueOf true x ⌝ }
+    ensures { λ r. ⌜ r ≡ valueOf x true ⌝ }
 {
     norm_f32(norm(x))
 }

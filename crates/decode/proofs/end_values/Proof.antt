@@ -13,7 +13,7 @@ use Rattle.decode.proofs.end_values.Statement.{statement}
 use Rattle.decode.proofs.end_values.Tie as tie
 
 abbrev valueOfTwo : ℕ → ℕ → Bool → ℕ → Float
-valueOfTwo l0 l1 snorm i = levelValue snorm (getD (l0 ∷ l1 ∷ []) i 0)
+valueOfTwo l0 l1 snorm i = levelValue (getD (l0 ∷ l1 ∷ []) i 0) snorm
 
 abbrev Inv-loop : tie.InvT-loop
 Inv-loop l0 l1 snorm levels floats₀ i₀ floats i = (i ≤ 2) × Filled nan (valueOfTwo l0 l1 snorm) 2 floats i

@@ -6,13 +6,13 @@ use native.Mathlib.Omega.{arith}
 use lib.ListN.{length, take, length-take, length-drop}
 use lib.Seq.{length-paste}
 use borrow.Author.Needs.{needs}
-use Rattle.lines.specs.Answers.{answerOf, lineOf, recordAt, linesTo, Written}
+use Rattle.lines.specs.Answers.{answerOf, lineOf, recordAt, linesTo, AtStart}
 use Rattle.lines.proofs.Laws.{written-more}
 use Rattle.lines.proofs.lines.Statement.{statement}
 use Rattle.lines.proofs.lines.Tie as tie
 
 abbrev Inv-loop : tie.InvT-loop
-Inv-loop input out₀ at₀ i₀ i-end out at i = (i ≤ length input / 68) × (at ≤ i * 17) × (length out ≡ length out₀) × Written (linesTo input i) out₀ out at
+Inv-loop input out₀ at₀ i₀ i-end out at i = (i ≤ length input / 68) × (at ≤ i * 17) × (length out ≡ length out₀) × AtStart (linesTo input i) out₀ out at
 
 abbrev μ-loop : tie.MeasureT-loop
 μ-loop input out₀ at₀ i₀ i-end out at i = length input / 68 - i

@@ -27,15 +27,15 @@ returns-2 c =
     let k = d .before .before in
     rw (← k .before .before .new-closest .ensures, ← k .abs .ensures, d .before .if1 .left, d .if2 .taken, c .coded6 .ensures)
 
-nearest-requires : tie.Need-nearest-requires
-nearest-requires c κs = search needs
+nearer-palette-requires : tie.Need-nearer-palette-requires
+nearer-palette-requires c κs = search needs
 
 returns-3 : tie.Need-returns-3
 unfolding singleColor
 returns-3 c =
     let d = c .before in
     let k = d .before .before in
-    rw (← k .before .before .new-closest .ensures, ← k .abs .ensures, d .before .if1 .left, d .if2 .left, c .nearest .ensures)
+    rw (← k .before .before .new-closest .ensures, ← k .abs .ensures, d .before .if1 .left, d .if2 .left, c .nearer-palette .ensures)
 
 pub single-color-spec : {M : Type 1} → statement M
 single-color-spec =
@@ -47,5 +47,5 @@ single-color-spec =
     returns
     coded6-requires
     returns-2
-    nearest-requires
+    nearer-palette-requires
     returns-3)

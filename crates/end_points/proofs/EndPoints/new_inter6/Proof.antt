@@ -16,7 +16,7 @@ level-byte-requires c κs =
 level-byte-requires-2 : tie.Need-level-byte-requires-2
 level-byte-requires-2 c κs =
     let a = c .before .before .args in
-    rw (c .before .of-ends .ensures) (low-le (a .snorm) (levelsOf (a .snorm) (a .e0) (a .e1)) (levels-distinct (a .snorm) (a .e0) (a .e1)))
+    rw (c .before .of-ends .ensures) (low-le (a .snorm) (levelsOf (a .e0) (a .e1) (a .snorm)) (levels-distinct (a .snorm) (a .e0) (a .e1)))
 
 swapped-requires : tie.Need-swapped-requires
 swapped-requires c κs = search needs

@@ -1,8 +1,8 @@
-use Rattle.single.proofs.Steps.{nearest-is}
+use Rattle.single.proofs.Steps.{nearer-palette-is}
 use Rattle.palette.proofs.ClosestLaws.{closest6-lt, closest4-lt}
 use borrow.Author.Needs.{needs}
-use Rattle.single.proofs.nearest.Statement.{statement}
-use Rattle.single.proofs.nearest.Tie as tie
+use Rattle.single.proofs.nearerPalette.Statement.{statement}
+use Rattle.single.proofs.nearerPalette.Tie as tie
 
 new-inter6-requires : tie.Need-new-inter6-requires
 new-inter6-requires c κs = search needs
@@ -33,7 +33,7 @@ returns c =
     let m = k .before .before in
     let e = m .before .before in
     rw (
-      nearest-is _ _ (e .before .before .new-inter6 .result) (e .before .new-inter4 .result) (e .from-endpoints .result) (k .before .from-endpoints2 .result .colors) (m .closest .result) (k .closest2 .result)
+      nearer-palette-is _ _ (e .before .before .new-inter6 .result) (e .before .new-inter4 .result) (e .from-endpoints .result) (k .before .from-endpoints2 .result .colors) (m .closest .result) (k .closest2 .result)
           (e .before .before .new-inter6 .ensures) (e .before .new-inter4 .ensures) (e .from-endpoints .ensures) (k .before .from-endpoints2 .ensures) (m .closest .ensures) (k .closest2 .ensures),
       c .before .if1 .taken,
     ) (c .uniform .ensures)
@@ -49,13 +49,13 @@ returns-2 c =
     let m = k .before .before in
     let e = m .before .before in
     rw (
-      nearest-is _ _ (e .before .before .new-inter6 .result) (e .before .new-inter4 .result) (e .from-endpoints .result) (k .before .from-endpoints2 .result .colors) (m .closest .result) (k .closest2 .result)
+      nearer-palette-is _ _ (e .before .before .new-inter6 .result) (e .before .new-inter4 .result) (e .from-endpoints .result) (k .before .from-endpoints2 .result .colors) (m .closest .result) (k .closest2 .result)
           (e .before .before .new-inter6 .ensures) (e .before .new-inter4 .ensures) (e .from-endpoints .ensures) (k .before .from-endpoints2 .ensures) (m .closest .ensures) (k .closest2 .ensures),
       c .before .if1 .left,
     ) (c .uniform2 .ensures)
 
-pub nearest-spec : {M : Type 1} → statement M
-nearest-spec =
+pub nearer-palette-spec : {M : Type 1} → statement M
+nearer-palette-spec =
     tie.close
     (tie.spec
     new-inter6-requires
