@@ -4,8 +4,8 @@ ghost use Prim.Native.Nat.{_<_};
 ghost use Rattle.compress.specs.Inter4.{far as farOf, upward as upwardOf, candidate as candidateOf, walked as walkedOf, reassigned, firstEnds, compressInter4};
 use coding::Coded;
 use floats::Pair;
-use palette::Kind;
 use options::Options;
+use palette::Kind;
 use refine::rounds::Held;
 
 const BC4_MIN_VALUE: f32 = 1.0 / (255.0 * 7.0);

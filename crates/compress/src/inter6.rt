@@ -3,8 +3,8 @@ ghost use mathlib.Core.Path.{_≡_};
 ghost use Rattle.compress.specs.Inter6.{compressedFrom, nudged as nudgedOf, nudgedPair, five as fiveOf, smaller as smallerOf, compressInter6};
 use coding::Coded;
 use floats::Pair;
-use palette::Kind;
 use options::Options;
+use palette::Kind;
 
 // compress_inter6_impl
 fn compressed_from(b: &[f32; 16], p: Pair, o: Options) -> Coded

@@ -22,7 +22,7 @@ use Rattle.palette.specs.declared.Kind.the-variants.{Six, Four}
 use Rattle.palette.proofs.ClosestLaws.{closest6-lt, closest4-lt}
 use Rattle.bcn_util.proofs.DitherLaws.{indexes-filled}
 use Rattle.options.specs.declared.Options.{Options}
-use Rattle.coding.specs.Coding.{indexedBy, written}
+use Rattle.coding.specs.Coding.{indexedBy, laidOut}
 use Rattle.search.specs.Covered.{endsOf}
 use Rattle.decode.specs.Meaning.{valueAt, decoded}
 use Rattle.decode.proofs.Chosen.{six-chosen, four-chosen, first-value, packed-decoded}
@@ -65,7 +65,7 @@ rule-meant snorm Four e r x =
 abbrev pub bytesBy : Choice → ℕ
 bytesBy c = packed (c .ends .c0) (c .ends .c1) (filledTo (c .index) 16)
 
-palette-bytes : (kind : Kind) (e : EndPoints) (b : List Float) (dither : Bool) → written e (indexedBy (ruleOf kind e) b dither) .bytes ≡ bytesBy (byPalette kind e b dither)
+palette-bytes : (kind : Kind) (e : EndPoints) (b : List Float) (dither : Bool) → laidOut e (indexedBy (ruleOf kind e) b dither) .bytes ≡ bytesBy (byPalette kind e b dither)
 unfolding byPalette
 palette-bytes kind e b true = ap (packed (e .c0) (e .c1)) (indexes-filled (ruleOf kind e) b 16)
 palette-bytes kind e b false = refl
@@ -105,7 +105,7 @@ answer b o n c can m e reads =
 
 module _ (b : List Float) (o : Options) (n : ℕ) where
   pub by-palette : (kind : Kind) (e : EndPoints) (block : List Float) → CanChoose b o (byPalette kind e block (o .dither)) → Ready (o .snorm) kind e
-      → n ≡ written e (indexedBy (ruleOf kind e) block (o .dither)) .bytes → Answer b o n
+      → n ≡ laidOut e (indexedBy (ruleOf kind e) block (o .dither)) .bytes → Answer b o n
   unfolding byPalette
   by-palette kind e block can r h =
       answer b o n (byPalette kind e block (o .dither)) can (r .made) (h ∙ palette-bytes kind e block (o .dither)) (palette-reads (o .snorm) kind e block (o .dither) r)

@@ -17,7 +17,7 @@ use Rattle.palette.specs.declared.Kind.{Kind}
 use Rattle.palette.specs.declared.Kind.the-variants.{Six, Four}
 use Rattle.options.specs.declared.Options.{Options}
 use Rattle.coding.specs.declared.Coded.{Coded}
-use Rattle.coding.specs.Coding.{indexedBy, written, ended6, ended4, coded6, coded4}
+use Rattle.coding.specs.Coding.{indexedBy, laidOut, ended6, ended4, coded6, coded4}
 use Rattle.compress.specs.Inter6.{smaller, compressInter6}
 use Rattle.compress.specs.Inter4.{compressInter4}
 use Rattle.search.specs.Search.{searched}
@@ -42,7 +42,7 @@ plain true true r e = clash e refl
 plain true false true e = clash e refl
 plain true false false e = (refl, refl)
 
-pair-bytes : (kind : Kind) (b : List Float) (min max : ℕ) → pairBytes kind b min max ≡ written (endsOf kind min max) (indexedBy (ruleOf kind (endsOf kind min max)) b false) .bytes
+pair-bytes : (kind : Kind) (b : List Float) (min max : ℕ) → pairBytes kind b min max ≡ laidOut (endsOf kind min max) (indexedBy (ruleOf kind (endsOf kind min max)) b false) .bytes
 unfolding ended6 ended4
 pair-bytes Six b min max = refl
 pair-bytes Four b min max = refl
@@ -67,7 +67,7 @@ module _ (b : List Float) (o : Options) (s : searches o ≡ false) (f : flat b �
   dithered = coded6 (perPixel (λ i. v)) (o .snorm) true (twice v) .bytes
 
   module _ (l : isLevel (o .snorm) v ≡ false) where
-    around-answer : (n : ℕ) (kind : Kind) → (o .dither ≡ true → kind ≡ Six) → n ≡ written (ends kind) (indexedBy (ruleOf kind (ends kind)) (perPixel (λ i. v)) (o .dither)) .bytes → Answer b o n
+    around-answer : (n : ℕ) (kind : Kind) → (o .dither ≡ true → kind ≡ Six) → n ≡ laidOut (ends kind) (indexedBy (ruleOf kind (ends kind)) (perPixel (λ i. v)) (o .dither)) .bytes → Answer b o n
     around-answer n kind d = by-palette b o n kind (ends kind) (perPixel (λ i. v)) (around s f l kind d) (ends-ready kind (o .snorm) (twice v))
 
     nearer-answer : o .dither ≡ false → Answer b o (nearerPalette v (o .snorm))
@@ -99,7 +99,7 @@ module _ (b : List Float) (o : Options) (s : searches o ≡ false) (f : flat b �
 
   coded-bytes : (kind : Kind) (start : Pair)
       → let e = endsIn kind (o .snorm) (roundedEnds kind b o start) in
-      coded kind start .bytes ≡ written e (indexedBy (ruleOf kind e) b (o .dither)) .bytes
+      coded kind start .bytes ≡ laidOut e (indexedBy (ruleOf kind e) b (o .dither)) .bytes
   unfolding coded6 ended6 coded4 ended4
   coded-bytes Six start = refl
   coded-bytes Four start = refl

@@ -8,10 +8,10 @@ use Rattle.end_points.specs.declared.EndPoints.{EndPoints}
 use Rattle.block.specs.Samples.{pixelAt, perPixel}
 use Rattle.block.proofs.Fill.{getD-tabulate}
 use Rattle.palette.specs.declared.Closest.{Closest}
-use Rattle.coding.specs.Coding.{indexedBy, written}
+use Rattle.coding.specs.Coding.{indexedBy, laidOut}
 use Rattle.single.specs.Single.{uniform}
 
-pub uniform-written : (rule : Float → Closest) (e : EndPoints) (v : Float) → uniform e (rule v .index) ≡ written e (indexedBy rule (perPixel (λ i. v)) false) .bytes
+pub uniform-written : (rule : Float → Closest) (e : EndPoints) (v : Float) → uniform e (rule v .index) ≡ laidOut e (indexedBy rule (perPixel (λ i. v)) false) .bytes
 uniform-written rule e v =
     ap (packed (e .c0) (e .c1))
     (filled-same (λ i. rule v .index) (λ i. rule (pixelAt (perPixel (λ i. v)) i) .index) 16

@@ -1,8 +1,8 @@
 use Rattle.single.proofs.Steps.{nearer-palette-is}
 use Rattle.palette.proofs.ClosestLaws.{closest6-lt, closest4-lt}
 use borrow.Author.Needs.{needs}
-use Rattle.single.proofs.nearerPalette.Statement.{statement}
-use Rattle.single.proofs.nearerPalette.Tie as tie
+use Rattle.single.proofs.nearer_palette.Statement.{statement}
+use Rattle.single.proofs.nearer_palette.Tie as tie
 
 new-inter6-requires : tie.Need-new-inter6-requires
 new-inter6-requires c κs = search needs
