@@ -1,35 +1,8 @@
-// The public calls on sixteen samples and eight bytes. An answer is 0, or the number of the refusal; what comes with it is in `out`.
+// The public calls on sixteen samples and eight bytes, the options as bytes 0, 1 and 2 of a word whose byte 3 is 0. An answer is 0, or the number of the refusal; what comes with it is in `out`.
 use bc4::Checked;
 use bc4::Encoded;
-use bc4::Options;
-use bc4::Quantization;
 use bc4::Resent;
 use bc4::Scored;
-
-// As bytes 0, 1 and 2 of a record's word have them.
-fn options(flags: u8, limit: u8, quality: u8) -> Options {
-    let quantization = quantization(quality);
-    Options {
-        dither: flags % 2 == 1,
-        snorm: flags / 2 % 2 == 1,
-        brute_force: flags / 4 % 2 == 1,
-        use_inter4: flags / 8 % 2 == 1,
-        use_inter4_heuristic: flags / 16 % 2 == 1,
-        quantization: quantization,
-        fast_iter: flags / 32 % 2 == 1,
-        max_refine_iter: limit,
-        size_variations: flags / 64 % 2 == 1,
-        iter_initial_inter4: flags / 128 % 2 == 1,
-    }
-}
-
-fn quantization(quality: u8) -> Quantization {
-    match quality {
-        0 => Quantization::Round,
-        1 => Quantization::MediumQuality,
-        _ => Quantization::HighQuality,
-    }
-}
 
 #[no_mangle]
 pub extern "C" fn inner_encode_block(
@@ -39,7 +12,7 @@ pub extern "C" fn inner_encode_block(
     quality: u8,
     out: &mut u64,
 ) -> u8 {
-    let encoded = bc4::encode_block(samples, options(flags, limit, quality));
+    let encoded = bc4::word::encode_block(samples, bc4::word::read(flags, limit, quality, 0));
     match encoded {
         Encoded::Refused(q) => bc4::number(q),
         Encoded::Block(b) => {
@@ -85,7 +58,7 @@ pub extern "C" fn inner_resend(
     out: &mut u64,
     fresh: &mut bool,
 ) -> u8 {
-    let resent = bc4::resend(samples, held, options(flags, limit, quality));
+    let resent = bc4::word::resend(samples, held, bc4::word::read(flags, limit, quality, 0));
     match resent {
         Resent::Refused(q) => bc4::number(q),
         Resent::Block(h) => {

@@ -1,24 +1,46 @@
 -- Laws of the text that grows in the output.
 use mathlib.Core.Path.{_≡_, sym, ap, _∙_}
-use mathlib.Core.List.{List, _++_}
-use Prim.Native.Nat.{ℕ, zero, suc, _+_, _*_, _≤_}
+use mathlib.Core.List.{List, _++_, append-assoc, append-nil}
+use Prim.Native.Nat.{ℕ, zero, suc, _+_, _*_, _-_, _≤_}
 use native.Mathlib.Nat.{min-eq-left}
 use native.Mathlib.Omega.{arith}
-use lib.ListN.{length, take, drop, length-append, length-take}
-use lib.Seq.{paste, take-paste, drop-paste, length-paste, drop-drop}
+use lib.ListN.{length, take, drop, length-append, length-take, length-drop, drop-of-length-le}
+use lib.Seq.{length-take-le, take-all, take-length, take-at, drop-at, drop-drop}
+use borrow.Rule.Slice.PartMut.{putMid}
 use Rattle.bc4.specs.declared.Encoded.{Encoded}
 use Rattle.bc4.specs.declared.Encoded.the-variants.{Block, Refused}
-use Rattle.lines.specs.Output.{hexLine, refusedLine}
+use Rattle.lines.specs.declared.output.Line.{Line}
+use Rattle.lines.specs.Output.{hexLine, refusedLine, Holds}
 use Rattle.lines.specs.Answers.{answerOf, lineOf, recordAt, linesTo, AtStart}
 
--- A text and k bytes pasted after it are the longer text.
-pub written-more : {text before after : List ℕ} {n : ℕ} (source : List ℕ) (k : ℕ) → AtStart text before after n → n + k ≤ length after → k ≤ length source
-    → AtStart (text ++ take k source) before (paste after n source k) (n + k)
-written-more {text} {before} {after} {n} source k w room enough = record {
-  within = rw (length-paste after n source k room enough) (room);
-  start = take-paste after n source k (w .within) enough ∙ ap (λ (t : List ℕ). t ++ take k source) (w .start);
-  rest = drop-paste after n source k (w .within) enough ∙ rw (← drop-drop k n after, ← drop-drop k n before, w .rest);
-}
+-- What the output is once `new` was copied over its bytes from `at` on,
+pub copied : (after new : List ℕ) (at : ℕ) → at + length new ≤ length after
+    → putMid at (length after - at) after (take (length new) new ++ drop (length new) (take (length after - at) (drop at after)))
+    ≡ (take at after ++ new) ++ drop (at + length new) after
+copied after new at room =
+    let all : length (drop at after) ≤ length after - at = simp length-drop (omega arith) in
+    rw (take-all (length after - at) (drop at after) all, drop-of-length-le (drop at after) all, take-length new, drop-drop (length new) at after, append-nil (new ++ drop (at + length new) after))
+    (sym (append-assoc (take at after) new (drop (at + length new) after)))
+
+-- and after a text that stood there before it: the longer text.
+pub written-more : {text before after : List ℕ} {at : ℕ} (new : List ℕ) → AtStart text before after at → at + length new ≤ length after
+    → let out = (take at after ++ new) ++ drop (at + length new) after in
+    AtStart (text ++ new) before out (at + length new) × (length out ≡ length after)
+written-more {text} {before} {after} {at} new w room =
+    let first = take at after ++ new in
+    let long : length first ≡ at + length new = simp (length-append, length-take) (omega arith) in
+    let same : length (first ++ drop (at + length new) after) ≡ length after = simp (length-append, length-take, length-drop) (omega arith) in (
+      record {
+        within = omega (arith, same);
+        start = take-at first (drop (at + length new) after) (at + length new) long ∙ rw (w .start);
+        rest = drop-at first (drop (at + length new) after) (at + length new) long ∙ rw (← drop-drop (length new) at after, ← drop-drop (length new) at before, w .rest);
+      },
+      same,
+    )
+
+-- the bytes of a line
+pub line-bytes : {l : Line} {text : List ℕ} → Holds l text → length (take (l .length) (l .bytes)) ≡ l .length
+line-bytes {l} h = length-take-le (l .length) (l .bytes) (omega arith)
 
 written-length : {text before after : List ℕ} {n : ℕ} → AtStart text before after n → length text ≡ n
 written-length {text} {before} {after} {n} w = ap length (sym (w .start)) ∙ length-take n after ∙ min-eq-left (w .within)

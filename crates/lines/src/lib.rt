@@ -2,7 +2,6 @@
 ghost use mathlib.Core.Path.{_≡_};
 ghost use Prim.Native.Nat.{_+_, _*_, _/_, _≤_};
 ghost use lib.ListN.{length};
-ghost use lib.Seq.{paste};
 ghost use Rattle.lines.specs.Answers.{answerOf, lineOf, linesTo, textOf, AtStart};
 ghost use Rattle.lines.specs.Output.{Holds};
 
@@ -29,18 +28,6 @@ fn line(answer: Encoded) -> Line
     }
 }
 
-// The first n bytes of `source` into `out` from `at` on.
-fn copy(out: &mut [u8], at: usize, source: &[u8], n: usize)
-    requires { ⌜ (n ≤ length (now source)) × (at + n ≤ length (now out)) ⌝ }
-    ensures { λ _. ⌜ now (out .exit) ≡ paste (now (out .entry)) at (now (source .entry)) n ⌝ }
-{
-    let mut i = 0;
-    while i < n {
-        out[at + i] = source[i];
-        i += 1;
-    }
-}
-
 // The lines of all whole records of `input`, at the start of `out`: how many bytes they take. Later bytes stay.
 fn lines(input: &[u8], out: &mut [u8]) -> usize
     requires { ⌜ length (now input) / 68 * 17 ≤ length (now out) ⌝ }
@@ -50,9 +37,8 @@ fn lines(input: &[u8], out: &mut [u8]) -> usize
     for i in 0..input.len() / 68 {
         let l = line(answer_to(&input[i * 68..i * 68 + 68]));
         let n = l.length;
-        let bytes = l.bytes;
-        copy(out, at, &bytes, n);
-        at += n;
+        let text = l.bytes;
+        at += bytes::copy(&text[..n], &mut out[at..]);
     }
     at
 }
@@ -67,6 +53,5 @@ pub fn text(input: &[u8], out: &mut [u8]) -> usize
     if input.len() % 68 == 0 {
         return at;
     }
-    copy(out, at, b"short\n", 6);
-    at + 6
+    at + bytes::copy(b"short\n", &mut out[at..])
 }

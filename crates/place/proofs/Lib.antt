@@ -1,2 +1,3 @@
 pub mod Places
 pub mod Samples
+pub mod Joined

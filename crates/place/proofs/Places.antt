@@ -1,12 +1,13 @@
 -- What a good size says in plain numbers, and where blocks stand in it: within the bytes, and apart from one another.
-use mathlib.Core.Path.{_≡_, refl, ap}
+use mathlib.Core.Path.{_≡_, refl, sym, ap}
 use mathlib.Core.Bool.{Bool, true, false, _||_}
 use Prim.Native.Nat.{ℕ, _+_, _*_, _%_, _<_, _≤_}
-use native.Mathlib.Nat.{mul-le-mul, mul-le-mul-right, mul-comm, mul-left-comm, mul-mul-mul-comm, suc-mul}
+use native.Mathlib.Nat.{add-zero, add-mul, mul-le-mul, mul-le-mul-right, mul-comm, mul-assoc, mul-suc, mul-mul-mul-comm, suc-mul, div-eq-of-eq-mul-right, lt-of-mul-lt-mul-left}
+use native.Mathlib.Numerals.{add-one}
 use native.Mathlib.Omega.{arith}
-use lib.Dec.{leb}
+use lib.Dec.{leb, lit<}
 use borrow.Author.Tests.{ltb-false, leb-false, eqb-false, eqb-true, not-false}
-use Rattle.place.specs.Place.{longestSide, badSide, badSize, along, rowLength, encodedLength, noBlock, blockAt}
+use Rattle.place.specs.Place.{longestSide, badSide, badSize, along, encodedLength, noBlock, blockAt}
 
 pub neither : (a b : Bool) → a || b ≡ false → (a ≡ false) × (b ≡ false)
 neither true b h = absurd (let z : _≡_ {A = ℕ} 0 1 = cc in omega arith)
@@ -30,6 +31,13 @@ side-good n h =
     let f : n % 4 ≡ 0 = eqb-true (n % 4) 0 (not-false _ (a .1)) in
     record { some = omega arith; short = ltb-false longestSide n (b .1); fours = omega arith }
 
+pub record RowRoom (size width height row : ℕ) : Type 0 where
+  pub start : blockAt size width 0 row ≡ row * (along width * size)
+  pub next : blockAt size width 0 (row + 1) ≡ row * (along width * size) + along width * size
+  pub within : row * (along width * size) + along width * size ≤ encodedLength size width height
+  pub samples : 4 * (row + 1) * width ≤ width * height
+  pub blocks : row * along width + along width ≤ longestSide * longestSide
+
 module _ (width height : ℕ) (good : badSize width height ≡ false) where
   pub size-good : Side width × Side height
   unfolding badSize
@@ -42,18 +50,41 @@ module _ (width height : ℕ) (good : badSize width height ≡ false) where
   pub rows-samples : 4 * along height * width ≡ width * height
   rows-samples = rw (size-good .1 .fours) (mul-comm height width)
 
-  pub rows-length : along height * rowLength width ≡ encodedLength width height
-  rows-length =
-      let area = rw (size-good .0 .fours, size-good .1 .fours) at (mul-mul-mul-comm 4 (along width) 4 (along height)) in
-      omega (arith, area, mul-left-comm (along height) 8 (along width), mul-comm (along height) (along width))
+  -- the bytes of all blocks, row by row
+  pub rows-length : (size : ℕ) → along height * (along width * size) ≡ encodedLength size width height
+  rows-length size =
+      let area : width * height ≡ 16 * (along height * along width) = rw (size-good .0 .fours, size-good .1 .fours, mul-comm (along width) (along height)) at (mul-mul-mul-comm 4 (along width) 4 (along height)) in
+      sym (div-eq-of-eq-mul-right (lit< tt) (rw (area, mul-assoc 16 (along height * along width) size, mul-assoc (along height) (along width) size)))
 
-  pub block-within : (column row : ℕ) → column < along width → row < along height → blockAt width column row + 8 ≤ encodedLength width height
-  block-within column row h k = omega (arith, rows-length, mul-left-comm (along height) 8 (along width), fits row (along height) (along width) k)
+  pub block-within : (size column row : ℕ) → column < along width → row < along height → blockAt size width column row + size ≤ encodedLength size width height
+  block-within size column row h k =
+      let n = row * along width + column in
+      let below : n < along height * along width = omega (arith, fits row (along height) (along width) k) in
+      rw (← rows-length size, ← mul-assoc (along height) (along width) size, mul-comm size n) (fits n (along height * along width) size below)
+
+  -- the stretch of a row of blocks, from its first block to the next row's, and its four rows of samples
+  pub row-room : (size row : ℕ) → row < along height → RowRoom size width height row
+  row-room size row h =
+      let fours : 4 * (row + 1) ≤ height = omega (arith, size-good .1 .fours) in
+      let rows = mul-le-mul-right width fours in
+      let most = fits row (along height) (along width * size) h in
+      record {
+        start = rw (mul-comm size (row * along width + 0), add-zero (row * along width), mul-assoc row (along width) size);
+        next = rw (add-one row, suc-mul row (along width), add-zero (row * along width + along width), mul-comm size (row * along width + along width), add-mul (row * along width) (along width) size, mul-assoc row (along width) size);
+        within = rw (rows-length size) at most;
+        samples = omega (arith, rows, mul-comm width height);
+        blocks = omega (arith, fits row (along height) (along width) h, mul-le-mul {n₁ = along height} {m₁ = along width} {n₂ = longestSide} {m₂ = longestSide} (omega (arith, size-good .1 .short)) (omega (arith, size-good .0 .short)));
+      }
 
 -- Blocks that share a byte are one block.
-pub block-apart : (width column row column′ row′ : ℕ) → column < along width → column′ < along width
-    → blockAt width column row < blockAt width column′ row′ + 8 → blockAt width column′ row′ < blockAt width column row + 8 → (column ≡ column′) × (row ≡ row′)
-block-apart width column row column′ row′ h h′ p q =
+pub block-apart : (size width column row column′ row′ : ℕ) → column < along width → column′ < along width
+    → blockAt size width column row < blockAt size width column′ row′ + size → blockAt size width column′ row′ < blockAt size width column row + size
+    → (column ≡ column′) × (row ≡ row′)
+block-apart size width column row column′ row′ h h′ p q =
+    let n = row * along width + column in
+    let n′ = row′ * along width + column′ in
+    let not-after : n < n′ + 1 = lt-of-mul-lt-mul-left size (omega (arith, p, mul-suc size n′)) in
+    let not-before : n′ < n + 1 = lt-of-mul-lt-mul-left size (omega (arith, q, mul-suc size n)) in
     let above : row < row′ → ⊥ = λ l. omega (arith, fits row row′ (along width) l) in
     let below : row′ < row → ⊥ = λ l. omega (arith, fits row′ row (along width) l) in
     let same : row ≡ row′ = omega arith in

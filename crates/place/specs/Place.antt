@@ -1,8 +1,8 @@
 -- Document 01, "Calls and numbers": which sizes a tile has (refusal 1), which blocks stand in it (refusal 6), and where their samples and bytes
--- are. Samples are row-major.
+-- are. Samples are row-major, blocks go row by row from the top left. `size` is the bytes of a block.
 use mathlib.Core.Bool.{Bool, not, _||_}
-use mathlib.Core.List.{List}
-use Prim.Native.Nat.{ℕ, _+_, _*_, _/_, _%_}
+use mathlib.Core.List.{List, [], _++_}
+use Prim.Native.Nat.{ℕ, zero, suc, _+_, _*_, _/_, _%_}
 use lib.Dec.{leb, ltb, eqb}
 use lib.Ieee.{Float}
 use Rattle.block.specs.Samples.{pixelAt, perPixel}
@@ -20,20 +20,32 @@ badSize width height = badSide width || badSide height
 abbrev pub along : ℕ → ℕ
 along side = side / 4
 
--- the bytes of one row of blocks
-abbrev pub rowLength : ℕ → ℕ
-rowLength width = 8 * along width
+-- the bytes of a BC4 block
+abbrev pub bc4Size : ℕ
+bc4Size = 8
 
--- the bytes of all blocks: four bits for each sample
-abbrev pub encodedLength : ℕ → ℕ → ℕ
-encodedLength width height = width * height / 2
+-- the bytes of all blocks: `size` for sixteen samples, of a BC4 tile width * height / 2
+abbrev pub encodedLength : ℕ → ℕ → ℕ → ℕ
+encodedLength size width height = width * height * size / 16
 
 abbrev pub noBlock : ℕ → ℕ → ℕ → ℕ → Bool
 noBlock width height column row = leb (along width) column || leb (along height) row
 
--- where the eight bytes of a block start, blocks row by row from the top left
-abbrev pub blockAt : ℕ → ℕ → ℕ → ℕ
-blockAt width column row = 8 * (row * along width + column)
+-- where the bytes of a block start
+abbrev pub blockAt : ℕ → ℕ → ℕ → ℕ → ℕ
+blockAt size width column row = size * (row * along width + column)
+
+-- n pieces, one after the other
+unfoldable pub joined : (ℕ → List ℕ) → ℕ → List ℕ
+joined piece zero = []
+joined piece (suc n) = joined piece n ++ piece n
+
+-- the bytes of the blocks of a row, and of all rows, each block at its place (`block-stands`)
+abbrev pub rowBytes : (ℕ → ℕ → List ℕ) → ℕ → ℕ → List ℕ
+rowBytes block width row = joined (λ column. block column row) (along width)
+
+abbrev pub allBytes : (ℕ → ℕ → List ℕ) → ℕ → ℕ → List ℕ
+allBytes block width height = joined (rowBytes block width) (along height)
 
 -- where pixel i of a block stands among the samples
 abbrev pub sampleIndex : ℕ → ℕ → ℕ → ℕ → ℕ

@@ -2,9 +2,12 @@
 ghost use mathlib.Core.Path.{_≡_};
 ghost use Prim.Native.Nat.{_+_, _*_, _<_, _≤_};
 ghost use lib.ListN.{length};
-ghost use Rattle.place.specs.Place.{longestSide, badSide, badSize, along, blockAt, blockOf};
+ghost use Rattle.place.specs.Place.{longestSide, badSide, badSize, along, encodedLength, blockAt, blockOf};
 
 const LONGEST_SIDE: usize = 1024;
+
+// The bytes of a BC4 block.
+pub const BC4_SIZE: usize = 8;
 
 fn bad_side(n: usize) -> bool
     ensures { λ r. ⌜ r ≡ badSide n ⌝ }
@@ -18,12 +21,20 @@ pub fn bad_size(width: usize, height: usize) -> bool
     bad_side(width) | bad_side(height)
 }
 
-// Where a block's eight bytes start.
-pub fn block_at(width: usize, column: usize, row: usize) -> usize
-    requires { ⌜ blockAt width column row ≤ longestSide * longestSide ⌝ }
-    ensures { λ r. ⌜ r ≡ blockAt width column row ⌝ }
+// The bytes of all blocks. `size` is the bytes of one, here and below.
+pub fn encoded_length(size: usize, width: usize, height: usize) -> usize
+    requires { ⌜ (width * height ≤ longestSide * longestSide) × (width * height * size ≤ 16 * longestSide * longestSide) ⌝ }
+    ensures { λ r. ⌜ r ≡ encodedLength size width height ⌝ }
 {
-    8 * (row * (width / 4) + column)
+    width * height * size / 16
+}
+
+// Where a block's bytes start.
+pub fn block_at(size: usize, width: usize, column: usize, row: usize) -> usize
+    requires { ⌜ (row * along width + column ≤ longestSide * longestSide) × (blockAt size width column row ≤ 16 * longestSide * longestSide) ⌝ }
+    ensures { λ r. ⌜ r ≡ blockAt size width column row ⌝ }
+{
+    size * (row * (width / 4) + column)
 }
 
 // A block's own sixteen samples.

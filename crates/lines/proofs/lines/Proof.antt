@@ -1,13 +1,12 @@
 -- `lines::lines` meets its contract: after i turns the lines of the first i records stand at the start of `out`.
-use mathlib.Core.Path.{_≡_, refl, ap, _∙_}
+use mathlib.Core.Path.{_≡_, refl, sym, _∙_}
 use Prim.Native.Nat.{_/_, _+_, _*_, _-_, _≤_}
 use native.Mathlib.Numerals.{add-one}
 use native.Mathlib.Omega.{arith}
 use lib.ListN.{length, take, length-take, length-drop}
-use lib.Seq.{length-paste}
 use borrow.Author.Needs.{needs}
 use Rattle.lines.specs.Answers.{answerOf, lineOf, recordAt, linesTo, AtStart}
-use Rattle.lines.proofs.Laws.{written-more}
+use Rattle.lines.proofs.Laws.{copied, written-more, line-bytes}
 use Rattle.lines.proofs.lines.Statement.{statement}
 use Rattle.lines.proofs.lines.Tie as tie
 
@@ -45,14 +44,26 @@ answer-to-requires c κs = simp (length-take, length-drop) (omega arith)
 line-requires : tie.Need-line-requires Inv-loop μ-loop
 line-requires c κs = search needs
 
+array-share-prefix-text : tie.Need-array-share-prefix-text Inv-loop μ-loop
+array-share-prefix-text c = search needs
+
 slice-aggregate-copy : tie.Need-slice-aggregate-copy Inv-loop μ-loop
-slice-aggregate-copy c = search needs
+slice-aggregate-copy c = sym (line-bytes (c .before .before .line .ensures))
+
+sub-copy : tie.Need-sub-copy Inv-loop μ-loop
+sub-copy c = search needs
+
+part-copy-start : tie.Need-part-copy-start Inv-loop μ-loop
+part-copy-start c = search needs
+
+part-copy-end : tie.Need-part-copy-end Inv-loop μ-loop
+part-copy-end c = search needs
 
 copy-requires : tie.Need-copy-requires Inv-loop μ-loop
-copy-requires c κs = (omega arith, omega arith)
+copy-requires c κs = simp (length-take, length-drop) (omega arith)
 
 add-at : tie.Need-add-at Inv-loop μ-loop
-add-at c = search needs
+add-at c = let long = line-bytes (c .before .before .before .before .before .before .line .ensures) in omega arith
 
 add-i : tie.Need-add-i Inv-loop μ-loop
 add-i c = search needs
@@ -63,22 +74,17 @@ loop-less c = search needs
 loop-again : tie.Need-loop-again Inv-loop μ-loop
 unfolding linesTo
 loop-again c =
-    let copied = c .before .before .copy in
+    let copied-line = c .before .before .copy in
     let made = c .before .before .before .before .before .before in
     let l = made .before .before .before .before .loop in
-    let args = made .before .before .before .before .before .before .before .args in
     let line = made .line in
-    let enough : line .result .length ≤ length (line .result .bytes) = omega arith in
-    let room : l .at + line .result .length ≤ length (l .out) = omega arith in
+    let long = line-bytes (line .ensures) in
+    let text = take (line .result .length) (line .result .bytes) in
     let whole : l .i * 68 + 68 - l .i * 68 ≡ 68 = omega arith in
-    let same : take (line .result .length) (line .result .bytes) ≡ lineOf (answerOf (recordAt (args .input .now) (l .i)))
-    = rw (line .ensures .same, made .before .answer-to .ensures, whole) in (
-      omega arith,
-      omega arith,
-      ap length (copied .ensures) ∙ length-paste (l .out) (l .at) (line .result .bytes) (line .result .length) room enough ∙ l .inv .2,
-      rw (copied .ensures, add-one, ← same)
-          (written-more (line .result .bytes) (line .result .length) (l .inv .3) room enough),
-    )
+    let same : text ≡ lineOf (answerOf (recordAt (made .before .before .before .before .before .before .before .args .input .now) (l .i)))
+    = rw (line .ensures .same, made .before .answer-to .ensures, whole) in
+    let more = written-more text (l .inv .3) (omega arith) in
+    rw (copied-line .ensures .1, copied (l .out) text (l .at) (omega arith), copied-line .ensures .0, add-one, ← same) (omega arith, omega arith, more .1 ∙ l .inv .2, more .0)
 
 same-length : tie.Need-same-length Inv-loop μ-loop
 same-length c = search needs
@@ -104,7 +110,11 @@ lines-spec =
     part-answer-to-end
     answer-to-requires
     line-requires
+    array-share-prefix-text
     slice-aggregate-copy
+    sub-copy
+    part-copy-start
+    part-copy-end
     copy-requires
     add-at
     add-i
