@@ -3,8 +3,8 @@ include!("root.rs");
 use std::hint::black_box;
 
 extern "C" {
-    fn bc4_encode_block(samples: *const f32, count: usize, options: u32, block: *mut u8, nan: *mut usize) -> u32;
-    fn bc4_decode_block(encoded: *const u8, length: usize, snorm: bool, samples: *mut f32) -> u32;
+    fn bc4_encode_block(samples: *const f32, count: usize, options: u32, block: *mut u8, detail: *mut [usize; 4]) -> u32;
+    fn bc4_decode_block(encoded: *const u8, length: usize, snorm: bool, samples: *mut f32, detail: *mut [usize; 4]) -> u32;
     fn bc4_block_error(
         samples: *const f32,
         count: usize,
@@ -12,7 +12,7 @@ extern "C" {
         length: usize,
         snorm: bool,
         error: *mut f32,
-        nan: *mut usize,
+        detail: *mut [usize; 4],
     ) -> u32;
     fn bc4_encode_tile(
         samples: *const f32,
@@ -23,7 +23,7 @@ extern "C" {
         out: *mut u8,
         length: usize,
         written: *mut usize,
-        nan: *mut usize,
+        detail: *mut [usize; 4],
     ) -> u32;
     fn plain_decode(block: *const u8, out: *mut f32);
     fn clock_gettime(id: i32, ts: *mut [i64; 2]) -> i32;
@@ -51,8 +51,8 @@ impl Rng {
 }
 
 fn ours(b: &[f32; 16], word: u32) -> u64 {
-    let (mut block, mut nan) = ([0u8; 8], 0usize);
-    assert!(unsafe { bc4_encode_block(b.as_ptr(), 16, word, block.as_mut_ptr(), &mut nan) } == 0);
+    let (mut block, mut detail) = ([0u8; 8], [0usize; 4]);
+    assert!(unsafe { bc4_encode_block(b.as_ptr(), 16, word, block.as_mut_ptr(), &mut detail) } == 0);
     u64::from_le_bytes(block)
 }
 
@@ -183,8 +183,8 @@ fn error(set: &[[f32; 16]], word: u32) -> f64 {
     let sum: f64 = set
         .iter()
         .map(|b| {
-            let (block, mut error, mut nan) = (ours(b, word).to_le_bytes(), 0.0, 0);
-            assert!(unsafe { bc4_block_error(b.as_ptr(), 16, block.as_ptr(), 8, false, &mut error, &mut nan) } == 0);
+            let (block, mut error, mut detail) = (ours(b, word).to_le_bytes(), 0.0, [0; 4]);
+            assert!(unsafe { bc4_block_error(b.as_ptr(), 16, block.as_ptr(), 8, false, &mut error, &mut detail) } == 0);
             error as f64
         })
         .sum();
@@ -204,9 +204,9 @@ fn tile(r: &mut Rng, runs: usize) {
         runs,
         blocks,
         || {
-            let (mut written, mut nan) = (0, 0);
+            let (mut written, mut detail) = (0, [0; 4]);
             let refused = unsafe {
-                bc4_encode_tile(samples.as_ptr(), samples.len(), SIDE, SIDE, 0, out.as_mut_ptr(), out.len(), &mut written, &mut nan)
+                bc4_encode_tile(samples.as_ptr(), samples.len(), SIDE, SIDE, 0, out.as_mut_ptr(), out.len(), &mut written, &mut detail)
             };
             assert!(refused == 0 && written == SIDE * SIDE / 2);
             sum(&out)
@@ -222,13 +222,13 @@ fn tile(r: &mut Rng, runs: usize) {
         },
     );
     line("tile of 1,024 by 1,024, all off, a block", &[t]);
-    let (mut a, mut b) = (vec![[0.0f32; 16]; blocks], vec![[0.0f32; 16]; blocks]);
+    let (mut a, mut b, mut detail) = (vec![[0.0f32; 16]; blocks], vec![[0.0f32; 16]; blocks], [0; 4]);
     let t = both(
         runs,
         blocks,
         || {
             for (e, place) in out.chunks_exact(8).zip(&mut a) {
-                unsafe { bc4_decode_block(e.as_ptr(), 8, false, place.as_mut_ptr()) };
+                unsafe { bc4_decode_block(e.as_ptr(), 8, false, place.as_mut_ptr(), &mut detail) };
             }
             0
         },

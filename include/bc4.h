@@ -1,8 +1,7 @@
 /* BC4 blocks: sixteen samples in eight bytes. The calls of the static library `exports` (crates/exports), for C99 and C++ on x86-64.
 
-   A call answers 0, or the number of a refusal: of all that apply, the lowest. A refused call changes nothing that it was lent, but for
-   *nan_index on BC4_SAMPLE_IS_NAN; on any other answer, 0 included, *nan_index stays as it was. No call reads or writes outside what it is lent, and
-   each ends for every input. That, and every value written, is proved, as far as the caller keeps its part. No call allocates, keeps a pointer or has
+   A call answers 0, or the number of a refusal: of all that apply, the first in the order that its comment lists them. A refused call changes nothing
+   that it was lent, but for *detail, where the refusal has something to say. No call reads or writes outside what it is lent, and each ends for every input. That, and every value written, is proved, as far as the caller keeps its part. No call allocates, keeps a pointer or has
    a state: the language it is written in has no means for it. So calls may run in any number of threads at once. A call takes less than 4 KiB of stack, not
    counting what memcpy and memset take.
    The caller's part:
@@ -20,7 +19,7 @@
 #include <stdint.h>
 
 /* Major, minor and patch number of this header, a byte each. */
-#define BC4_VERSION 0x010000u
+#define BC4_VERSION 0x020000u
 
 /* ---- refusals */
 #define BC4_OK 0u              /* none */
@@ -30,8 +29,17 @@
 #define BC4_OUTPUT_LENGTH 4u   /* the output is shorter than width * height / 2 */
 #define BC4_DITHERED_RESEND 5u /* a resend with BC4_DITHER */
 #define BC4_NO_SUCH_BLOCK 6u   /* the column is not below width / 4, or the row not below height / 4 */
-#define BC4_SAMPLE_IS_NAN 7u   /* a sample is NaN; *nan_index is the lowest such index */
+#define BC4_SAMPLE_IS_NAN 7u   /* a sample is NaN; detail: the lowest such index */
 #define BC4_WORD_MALFORMED 8u  /* the options are no sum of the constants below */
+
+/* What a refusal says besides its number. Where it has something to say, by the list above, all four are written, with 0 for what it says nothing about.
+   On any other answer, 0 included, all four stay as they were. */
+typedef struct bc4_detail {
+  size_t what; /* no refusal has a kind of thing to name yet */
+  size_t index;
+  size_t row;
+  size_t column;
+} bc4_detail;
 
 /* ---- options: any of the flags, one limit and one quality, or'ed. 0 has no flag, the limit 0 and BC4_ROUND. A limit over 255 is 255; the macro reads
    its argument twice. */
@@ -58,32 +66,33 @@ uint32_t bc4_version(void);
 /* Encodes sixteen samples, row by row, into block[0..7]. Samples are on the scale 0 to 1, with BC4_SNORM too, where 0 is what a reader of the signed
    format shows as -1 and 1 as 1; below and above, infinity included, they are clamped.
    Refuses BC4_SAMPLE_COUNT, BC4_SAMPLE_IS_NAN, BC4_WORD_MALFORMED. */
-uint32_t bc4_encode_block(const float *samples, size_t sample_count, uint32_t options, uint8_t *block, size_t *nan_index);
+uint32_t bc4_encode_block(const float *samples, size_t sample_count, uint32_t options, uint8_t *block, bc4_detail *detail);
 
 /* Decodes eight bytes into samples[0..15], each in 0 to 1, signed blocks on the scale that bc4_encode_block has.
    Refuses BC4_ENCODED_LENGTH. */
-uint32_t bc4_decode_block(const uint8_t *encoded, size_t encoded_length, bool snorm, float *samples);
+uint32_t bc4_decode_block(const uint8_t *encoded, size_t encoded_length, bool snorm, float *samples, bc4_detail *detail);
 
 /* The f32 sum, in order, of the squared distances between sixteen samples, clamped, and what eight bytes decode to, into *error.
    Refuses BC4_SAMPLE_COUNT, BC4_ENCODED_LENGTH, BC4_SAMPLE_IS_NAN. */
 uint32_t bc4_block_error(const float *samples, size_t sample_count, const uint8_t *encoded, size_t encoded_length, bool snorm, float *error,
-                         size_t *nan_index);
+                         bc4_detail *detail);
 
 /* Encodes sixteen samples afresh and writes into block[0..7] the bytes to hold from now on: the fresh ones, and *fresh is 1, where their block
    error is strictly below that of the held ones; else the held ones, and *fresh is 0. `block` is not `held`.
    Refuses BC4_SAMPLE_COUNT, BC4_ENCODED_LENGTH, BC4_DITHERED_RESEND, BC4_SAMPLE_IS_NAN, BC4_WORD_MALFORMED. */
 uint32_t bc4_resend(const float *samples, size_t sample_count, const uint8_t *held, size_t held_length, uint32_t options, uint8_t *block,
-                    uint8_t *fresh, size_t *nan_index);
+                    uint8_t *fresh, bc4_detail *detail);
 
 /* Encodes a tile of width * height samples, row by row, into the first width * height / 2 bytes of `out`, and that count into *written: its blocks,
    row by row from the top left, each as bc4_encode_block gives it. Later bytes of `out` stay as they are.
    Refuses BC4_SIZE, BC4_SAMPLE_COUNT, BC4_OUTPUT_LENGTH, BC4_SAMPLE_IS_NAN, BC4_WORD_MALFORMED. */
 uint32_t bc4_encode_tile(const float *samples, size_t sample_count, size_t width, size_t height, uint32_t options, uint8_t *out,
-                         size_t out_length, size_t *written, size_t *nan_index);
+                         size_t out_length, size_t *written, bc4_detail *detail);
 
 /* Where in an encoded tile the block of a column and a row of blocks stands: its eight bytes are tile[*offset] to tile[*offset + 7].
    Refuses BC4_SIZE, BC4_ENCODED_LENGTH, BC4_NO_SUCH_BLOCK. */
-uint32_t bc4_block_view(const uint8_t *tile, size_t tile_length, size_t width, size_t height, size_t column, size_t row, size_t *offset);
+uint32_t bc4_block_view(const uint8_t *tile, size_t tile_length, size_t width, size_t height, size_t column, size_t row, size_t *offset,
+                        bc4_detail *detail);
 
 #ifdef __cplusplus
 }

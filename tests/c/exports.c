@@ -25,8 +25,8 @@ typedef struct {
   size_t length;
 } lent;
 
-static lent samples, encoded, block, out, fresh, written, nan_index, error, decoded, offset;
-static lent *const all[] = {&samples, &encoded, &block, &out, &fresh, &written, &nan_index, &error, &decoded, &offset};
+static lent samples, encoded, block, out, fresh, written, detail, error, decoded, offset;
+static lent *const all[] = {&samples, &encoded, &block, &out, &fresh, &written, &detail, &error, &decoded, &offset};
 
 static void *at(lent *l) { return l->bytes + SIDE; }
 
@@ -48,7 +48,7 @@ static void lend_all(void) {
   lend(&out, 0);
   lend(&fresh, 1);
   lend(&written, sizeof(size_t));
-  lend(&nan_index, sizeof(size_t));
+  lend(&detail, sizeof(bc4_detail));
   lend(&error, sizeof(float));
   lend(&decoded, 16 * sizeof(float));
   lend(&offset, sizeof(size_t));
@@ -74,6 +74,13 @@ static size_t taken_size(lent *l) {
   size_t n;
   take(l, &n, sizeof n);
   return n;
+}
+
+/* A refusal that says an index and nothing else: every field is written. */
+static bool told_index(size_t index) {
+  bc4_detail d;
+  take(&detail, &d, sizeof d);
+  return d.what == 0 && d.index == index && d.row == 0 && d.column == 0;
 }
 
 /* ---- samples and blocks */
@@ -106,7 +113,7 @@ static const uint8_t fifths[8] = {0x00, 0xff, 0x92, 0x24, 0x49, 0x92, 0x24, 0x49
 static const uint32_t malformed[] = {0x030000u, 0xff0000u, 0x01000000u, 0x80020000u};
 
 /* ---- encode block */
-static uint32_t encode(size_t count, uint32_t options) { return bc4_encode_block(at(&samples), count, options, at(&block), at(&nan_index)); }
+static uint32_t encode(size_t count, uint32_t options) { return bc4_encode_block(at(&samples), count, options, at(&block), at(&detail)); }
 
 static void encodes(float x, uint32_t options, const uint8_t *expected) {
   uint8_t got[8];
@@ -142,15 +149,15 @@ static void encode_blocks(void) {
   set_sample(12, nan_of());
   encode_refuses(9, 0, BC4_SAMPLE_COUNT);
   EXPECT(encode(16, 0) == BC4_SAMPLE_IS_NAN);
-  EXPECT(taken_size(&nan_index) == 9);
+  EXPECT(told_index(9));
   EXPECT(untouched());
   EXPECT(encode(16, malformed[0]) == BC4_SAMPLE_IS_NAN);
-  EXPECT(taken_size(&nan_index) == 9);
+  EXPECT(told_index(9));
   EXPECT(untouched());
 }
 
 /* ---- decode block */
-static uint32_t decode(size_t length, bool snorm) { return bc4_decode_block(at(&encoded), length, snorm, at(&decoded)); }
+static uint32_t decode(size_t length, bool snorm) { return bc4_decode_block(at(&encoded), length, snorm, at(&decoded), at(&detail)); }
 
 /* Each sample is within 1/2,097,152 of num / den, and 0 and 1 are exact. Times den and 2,097,152 both sides are exact in double. */
 static void decodes(const uint8_t *bytes, bool snorm, double num, double den) {
@@ -184,7 +191,7 @@ static void decode_blocks(void) {
 
 /* ---- block error */
 static uint32_t score(size_t count, size_t length, bool snorm) {
-  return bc4_block_error(at(&samples), count, at(&encoded), length, snorm, at(&error), at(&nan_index));
+  return bc4_block_error(at(&samples), count, at(&encoded), length, snorm, at(&error), at(&detail));
 }
 
 static void scores(float x, const uint8_t *bytes, bool snorm, float expected) {
@@ -212,13 +219,13 @@ static void block_errors(void) {
   EXPECT(score(16, 7, false) == BC4_ENCODED_LENGTH && untouched());
   EXPECT(score(16, 9, false) == BC4_ENCODED_LENGTH && untouched());
   EXPECT(score(16, 8, false) == BC4_SAMPLE_IS_NAN);
-  EXPECT(taken_size(&nan_index) == 3);
+  EXPECT(told_index(3));
   EXPECT(untouched());
 }
 
 /* ---- resend */
 static uint32_t resend(size_t count, size_t length, uint32_t options) {
-  return bc4_resend(at(&samples), count, at(&encoded), length, options, at(&block), at(&fresh), at(&nan_index));
+  return bc4_resend(at(&samples), count, at(&encoded), length, options, at(&block), at(&fresh), at(&detail));
 }
 
 static void resends(float x, uint32_t options, const uint8_t *held, const uint8_t *expected, uint8_t is_fresh) {
@@ -249,7 +256,7 @@ static void resend_blocks(void) {
   EXPECT(resend(16, 8, BC4_DITHER) == BC4_DITHERED_RESEND && untouched());
   EXPECT(resend(16, 8, BC4_DITHER | malformed[1]) == BC4_DITHERED_RESEND && untouched());
   EXPECT(resend(16, 8, malformed[1]) == BC4_SAMPLE_IS_NAN);
-  EXPECT(taken_size(&nan_index) == 15);
+  EXPECT(told_index(15));
   EXPECT(untouched());
   lend_samples(0.5f, 16);
   for (size_t k = 0; k < sizeof malformed / sizeof *malformed; k++) EXPECT(resend(16, 8, malformed[k]) == BC4_WORD_MALFORMED && untouched());
@@ -257,7 +264,7 @@ static void resend_blocks(void) {
 
 /* ---- encode tile */
 static uint32_t tile(size_t count, size_t width, size_t height, uint32_t options, size_t room) {
-  return bc4_encode_tile(at(&samples), count, width, height, options, at(&out), room, at(&written), at(&nan_index));
+  return bc4_encode_tile(at(&samples), count, width, height, options, at(&out), room, at(&written), at(&detail));
 }
 
 static void tiles(size_t width, size_t height, uint32_t options, size_t room) {
@@ -274,11 +281,12 @@ static void tiles(size_t width, size_t height, uint32_t options, size_t room) {
   for (size_t row = 0; row < height / 4; row++)
     for (size_t column = 0; column < width / 4; column++) {
       uint8_t alone[8];
-      size_t none, where = 0;
+      bc4_detail none;
+      size_t where = 0;
       for (size_t k = 0; k < 16; k++)
         memcpy(x + k, samples.bytes + SIDE + ((4 * row + k / 4) * width + 4 * column + k % 4) * sizeof *x, sizeof *x);
       EXPECT(bc4_encode_block(x, 16, options, alone, &none) == BC4_OK);
-      EXPECT(bc4_block_view(got, n, width, height, column, row, &where) == BC4_OK);
+      EXPECT(bc4_block_view(got, n, width, height, column, row, &where, &none) == BC4_OK);
       EXPECT(where == 8 * (row * (width / 4) + column));
       EXPECT(memcmp(got + where, alone, 8) == 0);
     }
@@ -305,7 +313,7 @@ static void encode_tiles(void) {
   EXPECT(tile(64, 8, 8, malformed[0], 31) == BC4_OUTPUT_LENGTH && untouched());
   EXPECT(tile(64, 8, 8, 0, 0) == BC4_OUTPUT_LENGTH && untouched());
   EXPECT(tile(64, 8, 8, malformed[0], 32) == BC4_SAMPLE_IS_NAN);
-  EXPECT(taken_size(&nan_index) == 17);
+  EXPECT(told_index(17));
   EXPECT(untouched());
   lend_samples(0.5f, 64);
   EXPECT(tile(64, 8, 8, malformed[0], 32) == BC4_WORD_MALFORMED && untouched());
@@ -313,7 +321,7 @@ static void encode_tiles(void) {
 
 /* ---- block view */
 static uint32_t view(size_t length, size_t width, size_t height, size_t column, size_t row) {
-  return bc4_block_view(at(&encoded), length, width, height, column, row, at(&offset));
+  return bc4_block_view(at(&encoded), length, width, height, column, row, at(&offset), at(&detail));
 }
 
 static void block_views(void) {

@@ -6,7 +6,7 @@
 //! RUSTFLAGS="-L native=REPOSITORY/target/staticlib" cargo build
 //! ```
 //!
-//! Every call answers its value or a [`Refusal`]: of all that apply, the one of the lowest number. No call allocates or has a state.
+//! Every call answers its value or a [`Refusal`]: of all that apply, the first in the order in which its text lists them. No call allocates or has a state.
 //! Calls take the floating-point environment that a program starts with, which is also what Rust asks of every thread.
 //!
 //! ```
@@ -29,13 +29,14 @@ extern "C" {
         sample_count: usize,
         options: u32,
         block: *mut u8,
-        nan_index: *mut usize,
+        detail: *mut Detail,
     ) -> u32;
     fn bc4_decode_block(
         encoded: *const u8,
         encoded_length: usize,
         snorm: bool,
         samples: *mut f32,
+        detail: *mut Detail,
     ) -> u32;
     fn bc4_block_error(
         samples: *const f32,
@@ -44,7 +45,7 @@ extern "C" {
         encoded_length: usize,
         snorm: bool,
         error: *mut f32,
-        nan_index: *mut usize,
+        detail: *mut Detail,
     ) -> u32;
     fn bc4_resend(
         samples: *const f32,
@@ -54,7 +55,7 @@ extern "C" {
         options: u32,
         block: *mut u8,
         fresh: *mut u8,
-        nan_index: *mut usize,
+        detail: *mut Detail,
     ) -> u32;
     fn bc4_encode_tile(
         samples: *const f32,
@@ -65,7 +66,7 @@ extern "C" {
         out: *mut u8,
         out_length: usize,
         written: *mut usize,
-        nan_index: *mut usize,
+        detail: *mut Detail,
     ) -> u32;
     fn bc4_block_view(
         tile: *const u8,
@@ -75,7 +76,19 @@ extern "C" {
         column: usize,
         row: usize,
         offset: *mut usize,
+        detail: *mut Detail,
     ) -> u32;
+}
+
+/// What a refusal says besides its number, as the library writes it. No refusal says anything but an index yet.
+#[repr(C)]
+#[derive(Clone, Copy, Default)]
+#[allow(dead_code)]
+struct Detail {
+    what: usize,
+    index: usize,
+    row: usize,
+    column: usize,
 }
 
 /// How the ends of a palette are rounded to bytes, by image-dds' names.
@@ -186,7 +199,7 @@ impl fmt::Display for Refusal {
 
 impl core::error::Error for Refusal {}
 
-fn checked(number: u32, nan_index: usize) -> Result<(), Refusal> {
+fn checked(number: u32, detail: Detail) -> Result<(), Refusal> {
     Err(match number {
         0 => return Ok(()),
         1 => Refusal::Size,
@@ -195,7 +208,7 @@ fn checked(number: u32, nan_index: usize) -> Result<(), Refusal> {
         4 => Refusal::OutputLength,
         5 => Refusal::DitheredResend,
         6 => Refusal::NoSuchBlock,
-        7 => Refusal::SampleIsNan(nan_index),
+        7 => Refusal::SampleIsNan(detail.index),
         8 => Refusal::WordMalformed,
         _ => unreachable!("the library has no other number"),
     })
@@ -204,7 +217,7 @@ fn checked(number: u32, nan_index: usize) -> Result<(), Refusal> {
 /// Major, minor and patch number of the library, a byte each.
 ///
 /// ```
-/// assert_eq!(bc4::version(), 0x010000);
+/// assert_eq!(bc4::version(), 0x020000);
 /// ```
 pub fn version() -> u32 {
     // SAFETY: it takes nothing.
@@ -225,7 +238,7 @@ pub fn version() -> u32 {
 /// assert_eq!(encode_block(&samples[1..], search), Err(Refusal::SampleCount));
 /// ```
 pub fn encode_block(samples: &[f32], options: Options) -> Result<[u8; 8], Refusal> {
-    let (mut block, mut nan_index) = ([0; 8], 0);
+    let (mut block, mut detail) = ([0; 8], Detail::default());
     // SAFETY: each pointer is that of a reference, with its length; those written to are locals of this call.
     let number = unsafe {
         bc4_encode_block(
@@ -233,10 +246,10 @@ pub fn encode_block(samples: &[f32], options: Options) -> Result<[u8; 8], Refusa
             samples.len(),
             options.word(),
             block.as_mut_ptr(),
-            &mut nan_index,
+            &mut detail,
         )
     };
-    checked(number, nan_index)?;
+    checked(number, detail)?;
     Ok(block)
 }
 
@@ -250,11 +263,18 @@ pub fn encode_block(samples: &[f32], options: Options) -> Result<[u8; 8], Refusa
 /// assert_eq!(decode_block(&[0; 7], false), Err(Refusal::EncodedLength));
 /// ```
 pub fn decode_block(encoded: &[u8], snorm: bool) -> Result<[f32; 16], Refusal> {
-    let mut samples = [0.0; 16];
+    let (mut samples, mut detail) = ([0.0; 16], Detail::default());
     // SAFETY: as for `encode_block`.
-    let number =
-        unsafe { bc4_decode_block(encoded.as_ptr(), encoded.len(), snorm, samples.as_mut_ptr()) };
-    checked(number, 0)?;
+    let number = unsafe {
+        bc4_decode_block(
+            encoded.as_ptr(),
+            encoded.len(),
+            snorm,
+            samples.as_mut_ptr(),
+            &mut detail,
+        )
+    };
+    checked(number, detail)?;
     Ok(samples)
 }
 
@@ -268,7 +288,7 @@ pub fn decode_block(encoded: &[u8], snorm: bool) -> Result<[f32; 16], Refusal> {
 /// assert_eq!(block_error(&[1.0; 16], &[0; 9], false), Err(Refusal::EncodedLength));
 /// ```
 pub fn block_error(samples: &[f32], encoded: &[u8], snorm: bool) -> Result<f32, Refusal> {
-    let (mut error, mut nan_index) = (0.0, 0);
+    let (mut error, mut detail) = (0.0, Detail::default());
     // SAFETY: as for `encode_block`.
     let number = unsafe {
         bc4_block_error(
@@ -278,10 +298,10 @@ pub fn block_error(samples: &[f32], encoded: &[u8], snorm: bool) -> Result<f32, 
             encoded.len(),
             snorm,
             &mut error,
-            &mut nan_index,
+            &mut detail,
         )
     };
-    checked(number, nan_index)?;
+    checked(number, detail)?;
     Ok(error)
 }
 
@@ -307,7 +327,7 @@ pub struct Held {
 /// assert_eq!(resend(&[1.0; 16], &[0; 8], dithered), Err(Refusal::DitheredResend));
 /// ```
 pub fn resend(samples: &[f32], held: &[u8], options: Options) -> Result<Held, Refusal> {
-    let (mut block, mut fresh, mut nan_index) = ([0; 8], 0, 0);
+    let (mut block, mut fresh, mut detail) = ([0; 8], 0, Detail::default());
     // SAFETY: as for `encode_block`.
     let number = unsafe {
         bc4_resend(
@@ -318,10 +338,10 @@ pub fn resend(samples: &[f32], held: &[u8], options: Options) -> Result<Held, Re
             options.word(),
             block.as_mut_ptr(),
             &mut fresh,
-            &mut nan_index,
+            &mut detail,
         )
     };
-    checked(number, nan_index)?;
+    checked(number, detail)?;
     Ok(Held {
         block,
         fresh: fresh == 1,
@@ -348,7 +368,7 @@ pub fn encode_tile(
     options: Options,
     out: &mut [u8],
 ) -> Result<usize, Refusal> {
-    let (mut written, mut nan_index) = (0, 0);
+    let (mut written, mut detail) = (0, Detail::default());
     // SAFETY: as for `encode_block`; `out` is borrowed mutably, so that it overlaps nothing.
     let number = unsafe {
         bc4_encode_tile(
@@ -360,10 +380,10 @@ pub fn encode_tile(
             out.as_mut_ptr(),
             out.len(),
             &mut written,
-            &mut nan_index,
+            &mut detail,
         )
     };
-    checked(number, nan_index)?;
+    checked(number, detail)?;
     Ok(written)
 }
 
@@ -384,7 +404,7 @@ pub fn block_view(
     column: usize,
     row: usize,
 ) -> Result<&[u8], Refusal> {
-    let mut offset = 0;
+    let (mut offset, mut detail) = (0, Detail::default());
     // SAFETY: as for `encode_block`.
     let number = unsafe {
         bc4_block_view(
@@ -395,9 +415,10 @@ pub fn block_view(
             column,
             row,
             &mut offset,
+            &mut detail,
         )
     };
-    checked(number, 0)?;
+    checked(number, detail)?;
     Ok(&tile[offset..offset + 8])
 }
 
