@@ -65,7 +65,7 @@ pub decode-determined : One-answer 2 decode-block-kinds.ps decode-block-kinds.r 
 decode-determined κs a x y s t p q = p .0 ∙ sym (q .0)
 
 pub decode-samples-determined : One-end 2 decode-block-kinds.ps decode-block-kinds.r decode-block.Post (λ κs s. s .1 .1 .0 .now)
-decode-samples-determined κs a x y s t p q = p .1 ∙ ap (λ z. samplesAfter z (a .1 .0) (a .0 .now) (a .1 .1 .0 .now)) (p .0 ∙ sym (q .0)) ∙ sym (q .1)
+decode-samples-determined κs a x y s t p q = p .1 ∙ ap (λ z. samplesAfter z (a .0 .now) (a .1 .0) (a .1 .1 .0 .now)) (p .0 ∙ sym (q .0)) ∙ sym (q .1)
 
 -- encode tile: the answer, and every byte of the output
 pub tile-determined : One-answer 2 encode-tile-kinds.ps encode-tile-kinds.r encode-tile.Post

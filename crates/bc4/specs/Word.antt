@@ -5,20 +5,25 @@
 --   byte 3  0
 -- Any other value of bytes 2 and 3 makes the word malformed: refusal 8, after all others.
 use mathlib.Core.Bool.{Bool, cond, not, _||_}
-use mathlib.Core.List.{List, [], _∷_, _++_}
+use mathlib.Core.List.{List}
 use Prim.Native.Nat.{ℕ, _/_, _%_, _^_}
 use lib.Dec.{eqb, ltb}
 use lib.Ieee.{Float}
 use Rattle.options.specs.declared.Options.{Options}
 use Rattle.options.specs.declared.Quantization.{Quantization}
 use Rattle.options.specs.declared.Quantization.the-variants.{Round, MediumQuality, HighQuality}
-use Rattle.refusal.specs.declared.Refusal.the-variants.{WordMalformed}
 use Rattle.bc4.specs.declared.word.Word.{Word}
 use Rattle.bc4.specs.declared.Encoded.{Encoded}
+use Rattle.bc4.specs.declared.Encoded.the-variants.{Block, Refused as NotEncoded}
 use Rattle.bc4.specs.declared.Resent.{Resent}
+use Rattle.bc4.specs.declared.Resent.the-variants.{Block as Answered, Refused as NotResent}
 use Rattle.bc4.specs.declared.Tiled.{Tiled}
-use Rattle.refusal.specs.Refusals.{Check, when, lowest, encodeChecks, resendChecks, tileChecks}
-use Rattle.bc4.specs.Calls.{encodedOn, resentOn, tiledOn}
+use Rattle.bc4.specs.declared.Tiled.the-variants.{Written, Refused as NotTiled}
+use Rattle.index_list.specs.Layout.{fromBytes}
+use Rattle.encode.specs.Encoder.{compressed}
+use Rattle.place.specs.Place.{encodedLength}
+use Rattle.refusal.specs.Refusals.{firstOf, answered, encodeChecks, resendChecks, tileChecks, andWord}
+use Rattle.bc4.specs.Calls.{betterOf}
 
 -- whether bit k of the flags is set
 abbrev pub flag : ℕ → ℕ → Bool
@@ -45,16 +50,14 @@ unfoldable pub wordOf : ℕ → ℕ → ℕ → ℕ → Word
 wordOf flags limit quality last = record { options = optionsOf flags limit (qualityOf quality); malformed = ltb 2 quality || not (eqb last 0) }
 
 -- ---- the calls that take a word
--- a call's checks, and the word's after them
-abbrev pub andWord : List Check → Word → List Check
-andWord checks w = checks ++ when WordMalformed (w .malformed) ∷ []
-
 abbrev pub encodeByWord : List Float → Word → Encoded
-encodeByWord samples w = encodedOn (lowest (andWord (encodeChecks samples) w)) samples (w .options)
+encodeByWord samples w = answered NotEncoded (Block (compressed samples (w .options))) (firstOf (andWord (encodeChecks samples) (w .malformed)))
 
 abbrev pub resendByWord : List Float → List ℕ → Word → Resent
-resendByWord samples held w = resentOn (lowest (andWord (resendChecks samples held (w .options)) w)) samples held (w .options)
+resendByWord samples held w =
+    answered NotResent (Answered (betterOf samples (fromBytes held) (w .options))) (firstOf (andWord (resendChecks samples held (w .options)) (w .malformed)))
 
 -- `room` is the length of the output
-abbrev pub tileByWord : List Float → ℕ → ℕ → ℕ → Word → Tiled
-tileByWord samples width height room w = tiledOn (lowest (andWord (tileChecks samples width height room) w)) width height
+abbrev pub tileByWord : List Float → ℕ → ℕ → Word → ℕ → Tiled
+tileByWord samples width height w room =
+    answered NotTiled (Written (encodedLength width height)) (firstOf (andWord (tileChecks samples width height room) (w .malformed)))

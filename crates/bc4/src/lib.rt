@@ -3,7 +3,7 @@
 ghost use mathlib.Core.Path.{_≡_};
 ghost use lib.ListN.{length};
 ghost use Rattle.index_list.specs.Layout.{bytesOf};
-ghost use Rattle.refusal.specs.Refusals.{lowest, decodeChecks, viewChecks};
+ghost use Rattle.refusal.specs.Refusals.{firstOf, decodeChecks, viewChecks};
 ghost use Rattle.bc4.specs.Calls.{encodeAnswer, samplesAfter, errorAnswer, betterOf, resendAnswer, tileAnswer, outAfter, viewOf};
 
 pub mod word;
@@ -71,8 +71,8 @@ pub fn encode_block(samples: &[f32], o: Options) -> Encoded
 
 // Sixteen samples into the caller's array, which stays as it was on a refusal.
 pub fn decode_block(encoded: &[u8], snorm: bool, samples: &mut [f32; 16]) -> Checked
-    ensures answer { λ r. ⌜ r ≡ lowest (decodeChecks (now (encoded .entry))) ⌝ }
-    ensures samples { λ r. ⌜ now (samples .exit) ≡ samplesAfter r snorm (now (encoded .entry)) (now (samples .entry)) ⌝ }
+    ensures answer { λ r. ⌜ r ≡ firstOf (decodeChecks (now (encoded .entry))) ⌝ }
+    ensures samples { λ r. ⌜ now (samples .exit) ≡ samplesAfter r (now (encoded .entry)) snorm (now (samples .entry)) ⌝ }
 {
     let checked = refusal::decode(encoded);
     match checked {
@@ -166,7 +166,7 @@ pub fn block_view(tile: &[u8], width: usize, height: usize, column: usize, row: 
 }
 
 pub fn view_refusal(tile: &[u8], width: usize, height: usize, column: usize, row: usize) -> Checked
-    ensures { λ r. ⌜ r ≡ lowest (viewChecks (length (now (tile .entry))) width height column row) ⌝ }
+    ensures { λ r. ⌜ r ≡ firstOf (viewChecks (length (now (tile .entry))) width height column row) ⌝ }
 {
     refusal::view(tile, width, height, column, row)
 }

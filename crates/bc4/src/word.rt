@@ -72,7 +72,7 @@ pub fn resend(samples: &[f32], held: &[u8], w: Word) -> Resent
 }
 
 pub fn encode_tile(samples: &[f32], width: usize, height: usize, w: Word, out: &mut [u8]) -> Tiled
-    ensures answer { λ r. ⌜ r ≡ tileByWord (now (samples .entry)) width height (length (now (out .entry))) w ⌝ }
+    ensures answer { λ r. ⌜ r ≡ tileByWord (now (samples .entry)) width height w (length (now (out .entry))) ⌝ }
     ensures bytes { λ r. ⌜ now (out .exit) ≡ outAfter r (now (samples .entry)) width height (w .options) (now (out .entry)) ⌝ }
 {
     if w.malformed {

@@ -20,34 +20,37 @@ use Rattle.exports.proofs.bc4_block_view.Reads as view
 pub version-determined : One-answer 0 version-kinds.ps version-kinds.r version.Post
 version-determined κs a x y s t p q = p ∙ sym q
 
--- encode block: block and NaN index
+-- encode block: block and detail
 pub encode-determined : One-answer 3 encode-kinds.ps encode-kinds.r encode.Post
 encode-determined κs a x y s t p q = p .0 ∙ sym (q .0)
 
 pub encode-block-determined : One-end 3 encode-kinds.ps encode-kinds.r encode.Post (λ κs s. s .1 .1 .0 .now)
 encode-block-determined κs a x y s t p q = p .1 .0 ∙ sym (q .1 .0)
 
-pub encode-nan-determined : One-end 3 encode-kinds.ps encode-kinds.r encode.Post (λ κs s. s .1 .1 .1 .0 .now)
-encode-nan-determined κs a x y s t p q = p .1 .1 ∙ sym (q .1 .1)
+pub encode-detail-determined : One-end 3 encode-kinds.ps encode-kinds.r encode.Post (λ κs s. s .1 .1 .1 .0 .now)
+encode-detail-determined κs a x y s t p q = p .1 .1 ∙ sym (q .1 .1)
 
--- decode block: samples
-pub decode-determined : One-answer 2 decode-kinds.ps decode-kinds.r decode.Post
+-- decode block: samples and detail
+pub decode-determined : One-answer 3 decode-kinds.ps decode-kinds.r decode.Post
 decode-determined κs a x y s t p q = p .0 ∙ sym (q .0)
 
-pub decode-samples-determined : One-end 2 decode-kinds.ps decode-kinds.r decode.Post (λ κs s. s .1 .1 .0 .now)
-decode-samples-determined κs a x y s t p q = p .1 ∙ sym (q .1)
+pub decode-samples-determined : One-end 3 decode-kinds.ps decode-kinds.r decode.Post (λ κs s. s .1 .1 .0 .now)
+decode-samples-determined κs a x y s t p q = p .1 .0 ∙ sym (q .1 .0)
 
--- block error: error and NaN index
+pub decode-detail-determined : One-end 3 decode-kinds.ps decode-kinds.r decode.Post (λ κs s. s .1 .1 .1 .0 .now)
+decode-detail-determined κs a x y s t p q = p .1 .1 ∙ sym (q .1 .1)
+
+-- block error: error and detail
 pub error-determined : One-answer 4 error-kinds.ps error-kinds.r error.Post
 error-determined κs a x y s t p q = p .0 ∙ sym (q .0)
 
 pub error-value-determined : One-end 4 error-kinds.ps error-kinds.r error.Post (λ κs s. s .1 .1 .1 .0 .now)
 error-value-determined κs a x y s t p q = p .1 .0 ∙ sym (q .1 .0)
 
-pub error-nan-determined : One-end 4 error-kinds.ps error-kinds.r error.Post (λ κs s. s .1 .1 .1 .1 .0 .now)
-error-nan-determined κs a x y s t p q = p .1 .1 ∙ sym (q .1 .1)
+pub error-detail-determined : One-end 4 error-kinds.ps error-kinds.r error.Post (λ κs s. s .1 .1 .1 .1 .0 .now)
+error-detail-determined κs a x y s t p q = p .1 .1 ∙ sym (q .1 .1)
 
--- resend: block, flag and NaN index
+-- resend: block, flag and detail
 pub resend-determined : One-answer 5 resend-kinds.ps resend-kinds.r resend.Post
 resend-determined κs a x y s t p q = p .0 ∙ sym (q .0)
 
@@ -57,10 +60,10 @@ resend-block-determined κs a x y s t p q = p .1 .0 ∙ sym (q .1 .0)
 pub resend-fresh-determined : One-end 5 resend-kinds.ps resend-kinds.r resend.Post (λ κs s. s .1 .1 .1 .1 .0 .now)
 resend-fresh-determined κs a x y s t p q = p .1 .1 .0 ∙ sym (q .1 .1 .0)
 
-pub resend-nan-determined : One-end 5 resend-kinds.ps resend-kinds.r resend.Post (λ κs s. s .1 .1 .1 .1 .1 .0 .now)
-resend-nan-determined κs a x y s t p q = p .1 .1 .1 ∙ sym (q .1 .1 .1)
+pub resend-detail-determined : One-end 5 resend-kinds.ps resend-kinds.r resend.Post (λ κs s. s .1 .1 .1 .1 .1 .0 .now)
+resend-detail-determined κs a x y s t p q = p .1 .1 .1 ∙ sym (q .1 .1 .1)
 
--- encode tile: every byte of the output, count and NaN index
+-- encode tile: every byte of the output, count and detail
 pub tile-determined : One-answer 4 tile-kinds.ps tile-kinds.r tile.Post
 tile-determined κs a x y s t p q = p .0 ∙ sym (q .0)
 
@@ -70,12 +73,15 @@ tile-bytes-determined κs a x y s t p q = p .1 .0 ∙ sym (q .1 .0)
 pub tile-written-determined : One-end 4 tile-kinds.ps tile-kinds.r tile.Post (λ κs s. s .1 .1 .1 .1 .1 .0 .now)
 tile-written-determined κs a x y s t p q = p .1 .1 .0 ∙ sym (q .1 .1 .0)
 
-pub tile-nan-determined : One-end 4 tile-kinds.ps tile-kinds.r tile.Post (λ κs s. s .1 .1 .1 .1 .1 .1 .0 .now)
-tile-nan-determined κs a x y s t p q = p .1 .1 .1 ∙ sym (q .1 .1 .1)
+pub tile-detail-determined : One-end 4 tile-kinds.ps tile-kinds.r tile.Post (λ κs s. s .1 .1 .1 .1 .1 .1 .0 .now)
+tile-detail-determined κs a x y s t p q = p .1 .1 .1 ∙ sym (q .1 .1 .1)
 
--- block view: offset
-pub view-determined : One-answer 2 view-kinds.ps view-kinds.r view.Post
+-- block view: offset and detail
+pub view-determined : One-answer 3 view-kinds.ps view-kinds.r view.Post
 view-determined κs a x y s t p q = p .0 ∙ sym (q .0)
 
-pub view-offset-determined : One-end 2 view-kinds.ps view-kinds.r view.Post (λ κs s. s .1 .1 .1 .1 .1 .0 .now)
-view-offset-determined κs a x y s t p q = p .1 ∙ sym (q .1)
+pub view-offset-determined : One-end 3 view-kinds.ps view-kinds.r view.Post (λ κs s. s .1 .1 .1 .1 .1 .0 .now)
+view-offset-determined κs a x y s t p q = p .1 .0 ∙ sym (q .1 .0)
+
+pub view-detail-determined : One-end 3 view-kinds.ps view-kinds.r view.Post (λ κs s. s .1 .1 .1 .1 .1 .1 .0 .now)
+view-detail-determined κs a x y s t p q = p .1 .1 ∙ sym (q .1 .1)

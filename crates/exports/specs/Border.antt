@@ -1,15 +1,12 @@
 -- How the answers of `bc4` cross to C: a refusal's number, with 0 for none, and what each lent place holds after the call. A refused call leaves
--- every place as it was, but for the index of a sample that is NaN, which refusal 7 alone writes.
+-- every place as it was, but for the four numbers of the detail, which a refusal that has something to say writes.
 use mathlib.Core.Bool.{cond}
 use mathlib.Core.List.{List}
 use Prim.Native.Nat.{ℕ, _/_, _%_, _^_}
 use lib.Ieee.{Float}
 use Rattle.index_list.specs.Layout.{bytesOf}
 use Rattle.place.specs.Place.{blockAt}
-use Rattle.refusal.specs.declared.Refusal.{Refusal}
-use Rattle.refusal.specs.declared.Refusal.the-variants.{Size, SampleCount, EncodedLength, OutputLength, DitheredResend, NoSuchBlock, SampleIsNan, WordMalformed}
 use Rattle.refusal.specs.declared.Checked.{Checked}
-use Rattle.refusal.specs.declared.Checked.the-variants.{Passed, Refused}
 use Rattle.bc4.specs.declared.word.Word.{Word}
 use Rattle.bc4.specs.declared.Encoded.{Encoded}
 use Rattle.bc4.specs.declared.Encoded.the-variants.{Block, Refused as NotEncoded}
@@ -20,7 +17,7 @@ use Rattle.bc4.specs.declared.Resent.{Resent}
 use Rattle.bc4.specs.declared.Resent.the-variants.{Block as Answered, Refused as NotResent}
 use Rattle.bc4.specs.declared.Tiled.{Tiled}
 use Rattle.bc4.specs.declared.Tiled.the-variants.{Written, Refused as NotTiled}
-use Rattle.refusal.specs.Refusals.{numberOf}
+use Rattle.refusal.specs.Refusals.{numberOf, detailOf, answered}
 use Rattle.bc4.specs.Word.{wordOf, encodeByWord, resendByWord, tileByWord}
 
 -- the options word, byte 0 lowest
@@ -36,26 +33,14 @@ resendFor samples held options = resendByWord samples held (wordOfNumber options
 
 -- `room` is the length of the output
 abbrev pub tileFor : List Float → ℕ → ℕ → ℕ → ℕ → Tiled
-tileFor samples width height room options = tileByWord samples width height room (wordOfNumber options)
+tileFor samples width height options room = tileByWord samples width height (wordOfNumber options) room
 
 -- ---- a refusal, or none
 abbrev pub numberIn : Checked → ℕ
-numberIn Passed = 0
-numberIn (Refused q) = numberOf q
+numberIn = answered numberOf 0
 
-abbrev pub nanOn : Refusal → ℕ → ℕ
-nanOn (SampleIsNan i) before = i
-nanOn Size before = before
-nanOn SampleCount before = before
-nanOn EncodedLength before = before
-nanOn OutputLength before = before
-nanOn DitheredResend before = before
-nanOn NoSuchBlock before = before
-nanOn WordMalformed before = before
-
-abbrev pub nanAfter : Checked → ℕ → ℕ
-nanAfter Passed before = before
-nanAfter (Refused q) before = nanOn q before
+abbrev pub detailAfter : Checked → List ℕ → List ℕ
+detailAfter checked before = answered (λ q. detailOf q before) before checked
 
 -- ---- encode block
 abbrev pub blockAfter : Encoded → List ℕ → List ℕ
@@ -84,5 +69,4 @@ writtenAfter (NotTiled q) before = before
 
 -- ---- block view
 abbrev pub offsetAfter : Checked → ℕ → ℕ → ℕ → ℕ → ℕ
-offsetAfter Passed width column row before = blockAt width column row
-offsetAfter (Refused q) width column row before = before
+offsetAfter checked width column row before = answered (λ q. before) (blockAt width column row) checked

@@ -3,9 +3,9 @@
 ghost use mathlib.Core.Path.{_≡_};
 ghost use mathlib.Core.Bool.{cond};
 ghost use lib.ListN.{length};
-ghost use Rattle.refusal.specs.Refusals.{numberOf, lowest, decodeChecks, viewChecks};
+ghost use Rattle.refusal.specs.Refusals.{numberOf, detailOf, firstOf, decodeChecks, viewChecks};
 ghost use Rattle.bc4.specs.Calls.{ofEncoded, ofScored, ofResent, ofTiled, samplesAfter, errorAnswer, outAfter};
-ghost use Rattle.exports.specs.Border.{wordOfNumber, encodeFor, resendFor, tileFor, numberIn, nanOn, nanAfter, blockAfter, errorAfter, heldAfter, freshAfter, writtenAfter, offsetAfter};
+ghost use Rattle.exports.specs.Border.{wordOfNumber, encodeFor, resendFor, tileFor, numberIn, detailAfter, blockAfter, errorAfter, heldAfter, freshAfter, writtenAfter, offsetAfter};
 use bc4::Checked;
 use bc4::Encoded;
 use bc4::Refusal;
@@ -14,12 +14,12 @@ use bc4::Scored;
 use bc4::Tiled;
 use bc4::word::Word;
 
-// Major, minor and patch number, a byte each: 1.0.0.
+// Major, minor and patch number, a byte each: 2.0.0.
 #[no_mangle]
 pub extern "C" fn bc4_version() -> u32
-    ensures { λ r. ⌜ r ≡ 0x010000 ⌝ }
+    ensures { λ r. ⌜ r ≡ 0x020000 ⌝ }
 {
-    0x010000
+    0x020000
 }
 
 fn word_in(options: u32) -> Word
@@ -33,30 +33,13 @@ fn word_in(options: u32) -> Word
     )
 }
 
-fn wide(x: u8) -> u32
-    ensures { λ r. ⌜ r ≡ x ⌝ }
-{
-    x as u32
-}
-
-fn number_in(checked: Checked) -> u32
-    ensures { λ r. ⌜ r ≡ numberIn checked ⌝ }
-{
-    match checked {
-        Checked::Passed => 0,
-        Checked::Refused(q) => wide(bc4::number(q)),
-    }
-}
-
-fn refused(q: Refusal, nan: &mut usize) -> u32
+// A refusal's number, and into `detail` what it brings with it: what, index, row and column.
+fn refused(q: Refusal, detail: &mut [usize; 4]) -> u32
     ensures number { λ r. ⌜ r ≡ numberOf q ⌝ }
-    ensures nan { λ _. ⌜ now (nan .exit) ≡ nanOn q (now (nan .entry)) ⌝ }
+    ensures detail { λ _. ⌜ now (detail .exit) ≡ detailOf q (now (detail .entry)) ⌝ }
 {
-    if let Refusal::SampleIsNan(i) = q {
-        *nan = i;
-        return 7;
-    }
-    wide(bc4::number(q))
+    refusal::detail(q, detail);
+    bc4::number(q) as u32
 }
 
 #[no_mangle]
@@ -64,11 +47,11 @@ pub extern "C" fn bc4_encode_block(
     samples: &[f32],
     options: u32,
     block: &mut [u8; 8],
-    nan: &mut usize,
+    detail: &mut [usize; 4],
 ) -> u32
     ensures number { λ r. ⌜ r ≡ numberIn (ofEncoded (encodeFor (now (samples .entry)) options)) ⌝ }
     ensures block { λ _. ⌜ now (block .exit) ≡ blockAfter (encodeFor (now (samples .entry)) options) (now (block .entry)) ⌝ }
-    ensures nan { λ _. ⌜ now (nan .exit) ≡ nanAfter (ofEncoded (encodeFor (now (samples .entry)) options)) (now (nan .entry)) ⌝ }
+    ensures detail { λ _. ⌜ now (detail .exit) ≡ detailAfter (ofEncoded (encodeFor (now (samples .entry)) options)) (now (detail .entry)) ⌝ }
 {
     let answer = bc4::word::encode_block(samples, word_in(options));
     match answer {
@@ -76,16 +59,26 @@ pub extern "C" fn bc4_encode_block(
             *block = bc4::bytes(b);
             0
         }
-        Encoded::Refused(q) => refused(q, nan),
+        Encoded::Refused(q) => refused(q, detail),
     }
 }
 
 #[no_mangle]
-pub extern "C" fn bc4_decode_block(encoded: &[u8], snorm: bool, samples: &mut [f32; 16]) -> u32
-    ensures number { λ r. ⌜ r ≡ numberIn (lowest (decodeChecks (now (encoded .entry)))) ⌝ }
-    ensures samples { λ _. ⌜ now (samples .exit) ≡ samplesAfter (lowest (decodeChecks (now (encoded .entry)))) snorm (now (encoded .entry)) (now (samples .entry)) ⌝ }
+pub extern "C" fn bc4_decode_block(
+    encoded: &[u8],
+    snorm: bool,
+    samples: &mut [f32; 16],
+    detail: &mut [usize; 4],
+) -> u32
+    ensures number { λ r. ⌜ r ≡ numberIn (firstOf (decodeChecks (now (encoded .entry)))) ⌝ }
+    ensures samples { λ _. ⌜ now (samples .exit) ≡ samplesAfter (firstOf (decodeChecks (now (encoded .entry)))) (now (encoded .entry)) snorm (now (samples .entry)) ⌝ }
+    ensures detail { λ _. ⌜ now (detail .exit) ≡ detailAfter (firstOf (decodeChecks (now (encoded .entry)))) (now (detail .entry)) ⌝ }
 {
-    number_in(bc4::decode_block(encoded, snorm, samples))
+    let checked = bc4::decode_block(encoded, snorm, samples);
+    match checked {
+        Checked::Refused(q) => refused(q, detail),
+        Checked::Passed => 0,
+    }
 }
 
 #[no_mangle]
@@ -94,11 +87,11 @@ pub extern "C" fn bc4_block_error(
     encoded: &[u8],
     snorm: bool,
     error: &mut f32,
-    nan: &mut usize,
+    detail: &mut [usize; 4],
 ) -> u32
     ensures number { λ r. ⌜ r ≡ numberIn (ofScored (errorAnswer (now (samples .entry)) (now (encoded .entry)) snorm)) ⌝ }
     ensures error { λ _. ⌜ now (error .exit) ≡ errorAfter (errorAnswer (now (samples .entry)) (now (encoded .entry)) snorm) (now (error .entry)) ⌝ }
-    ensures nan { λ _. ⌜ now (nan .exit) ≡ nanAfter (ofScored (errorAnswer (now (samples .entry)) (now (encoded .entry)) snorm)) (now (nan .entry)) ⌝ }
+    ensures detail { λ _. ⌜ now (detail .exit) ≡ detailAfter (ofScored (errorAnswer (now (samples .entry)) (now (encoded .entry)) snorm)) (now (detail .entry)) ⌝ }
 {
     let answer = bc4::block_error(samples, encoded, snorm);
     match answer {
@@ -106,7 +99,7 @@ pub extern "C" fn bc4_block_error(
             *error = e;
             0
         }
-        Scored::Refused(q) => refused(q, nan),
+        Scored::Refused(q) => refused(q, detail),
     }
 }
 
@@ -118,12 +111,12 @@ pub extern "C" fn bc4_resend(
     options: u32,
     block: &mut [u8; 8],
     fresh: &mut u8,
-    nan: &mut usize,
+    detail: &mut [usize; 4],
 ) -> u32
     ensures number { λ r. ⌜ r ≡ numberIn (ofResent (resendFor (now (samples .entry)) (now (held .entry)) options)) ⌝ }
     ensures block { λ _. ⌜ now (block .exit) ≡ heldAfter (resendFor (now (samples .entry)) (now (held .entry)) options) (now (block .entry)) ⌝ }
     ensures fresh { λ _. ⌜ now (fresh .exit) ≡ freshAfter (resendFor (now (samples .entry)) (now (held .entry)) options) (now (fresh .entry)) ⌝ }
-    ensures nan { λ _. ⌜ now (nan .exit) ≡ nanAfter (ofResent (resendFor (now (samples .entry)) (now (held .entry)) options)) (now (nan .entry)) ⌝ }
+    ensures detail { λ _. ⌜ now (detail .exit) ≡ detailAfter (ofResent (resendFor (now (samples .entry)) (now (held .entry)) options)) (now (detail .entry)) ⌝ }
 {
     let answer = bc4::word::resend(samples, held, word_in(options));
     match answer {
@@ -132,7 +125,7 @@ pub extern "C" fn bc4_resend(
             *fresh = bit(h.fresh);
             0
         }
-        Resent::Refused(q) => refused(q, nan),
+        Resent::Refused(q) => refused(q, detail),
     }
 }
 
@@ -150,12 +143,12 @@ pub extern "C" fn bc4_encode_tile(
     options: u32,
     out: &mut [u8],
     written: &mut usize,
-    nan: &mut usize,
+    detail: &mut [usize; 4],
 ) -> u32
-    ensures number { λ r. ⌜ r ≡ numberIn (ofTiled (tileFor (now (samples .entry)) width height (length (now (out .entry))) options)) ⌝ }
-    ensures bytes { λ _. ⌜ now (out .exit) ≡ outAfter (tileFor (now (samples .entry)) width height (length (now (out .entry))) options) (now (samples .entry)) width height (wordOfNumber options .options) (now (out .entry)) ⌝ }
-    ensures written { λ _. ⌜ now (written .exit) ≡ writtenAfter (tileFor (now (samples .entry)) width height (length (now (out .entry))) options) (now (written .entry)) ⌝ }
-    ensures nan { λ _. ⌜ now (nan .exit) ≡ nanAfter (ofTiled (tileFor (now (samples .entry)) width height (length (now (out .entry))) options)) (now (nan .entry)) ⌝ }
+    ensures number { λ r. ⌜ r ≡ numberIn (ofTiled (tileFor (now (samples .entry)) width height options (length (now (out .entry))))) ⌝ }
+    ensures bytes { λ _. ⌜ now (out .exit) ≡ outAfter (tileFor (now (samples .entry)) width height options (length (now (out .entry)))) (now (samples .entry)) width height (wordOfNumber options .options) (now (out .entry)) ⌝ }
+    ensures written { λ _. ⌜ now (written .exit) ≡ writtenAfter (tileFor (now (samples .entry)) width height options (length (now (out .entry)))) (now (written .entry)) ⌝ }
+    ensures detail { λ _. ⌜ now (detail .exit) ≡ detailAfter (ofTiled (tileFor (now (samples .entry)) width height options (length (now (out .entry))))) (now (detail .entry)) ⌝ }
 {
     let answer = bc4::word::encode_tile(samples, width, height, word_in(options), out);
     match answer {
@@ -163,7 +156,7 @@ pub extern "C" fn bc4_encode_tile(
             *written = n;
             0
         }
-        Tiled::Refused(q) => refused(q, nan),
+        Tiled::Refused(q) => refused(q, detail),
     }
 }
 
@@ -176,13 +169,15 @@ pub extern "C" fn bc4_block_view(
     column: usize,
     row: usize,
     offset: &mut usize,
+    detail: &mut [usize; 4],
 ) -> u32
-    ensures number { λ r. ⌜ r ≡ numberIn (lowest (viewChecks (length (now (tile .entry))) width height column row)) ⌝ }
-    ensures offset { λ _. ⌜ now (offset .exit) ≡ offsetAfter (lowest (viewChecks (length (now (tile .entry))) width height column row)) width column row (now (offset .entry)) ⌝ }
+    ensures number { λ r. ⌜ r ≡ numberIn (firstOf (viewChecks (length (now (tile .entry))) width height column row)) ⌝ }
+    ensures offset { λ _. ⌜ now (offset .exit) ≡ offsetAfter (firstOf (viewChecks (length (now (tile .entry))) width height column row)) width column row (now (offset .entry)) ⌝ }
+    ensures detail { λ _. ⌜ now (detail .exit) ≡ detailAfter (firstOf (viewChecks (length (now (tile .entry))) width height column row)) (now (detail .entry)) ⌝ }
 {
     let checked = bc4::view_refusal(tile, width, height, column, row);
     match checked {
-        Checked::Refused(q) => wide(bc4::number(q)),
+        Checked::Refused(q) => refused(q, detail),
         Checked::Passed => {
             *offset = place::block_at(width, column, row);
             0

@@ -1,3 +1,3 @@
-pub mod Lowest
+pub mod Firsts
 pub mod Nans
 pub mod Views

@@ -7,13 +7,13 @@ use lib.ListN.{length}
 use Rattle.place.specs.Place.{encodedLength, blockAt}
 use Rattle.place.proofs.Places.{size-small, block-there, block-within}
 use Rattle.refusal.specs.declared.Checked.the-variants.{Passed}
-use Rattle.refusal.specs.Refusals.{lowest, viewChecks}
-use Rattle.refusal.proofs.Lowest.{lowest-clear, same-of}
+use Rattle.refusal.specs.Refusals.{firstOf, viewChecks}
+use Rattle.refusal.proofs.Firsts.{first-clear, same-of}
 
-pub view-room : (tile : List ℕ) (width height column row : ℕ) → lowest (viewChecks (length tile) width height column row) ≡ Passed
+pub view-room : (tile : List ℕ) (width height column row : ℕ) → firstOf (viewChecks (length tile) width height column row) ≡ Passed
     → (blockAt width column row + 8 ≤ length tile) × (length tile ≤ 524288)
 view-room tile width height column row passed =
-    let clear = lowest-clear (viewChecks (length tile) width height column row) passed in
+    let clear = first-clear (viewChecks (length tile) width height column row) passed in
     let there = block-there width height column row (clear .1 .1 .0) in
     let within = block-within width height (clear .0) column row (there .0) (there .1) in
     let small = size-small width height (clear .0) in

@@ -1,7 +1,7 @@
--- Document 01, "Calls and numbers": the refusals, their numbers, and what each call checks. Checks run in number order; the lowest that applies
--- is the answer.
+-- Document 01, "Calls and numbers": the refusals, their numbers, and what each call checks, as a list: the first check of it that applies is the answer.
+-- The document's own lists are in number order; nothing here rests on that, and `demands` shows it.
 use mathlib.Core.Bool.{Bool, not, cond}
-use mathlib.Core.List.{List, [], _∷_}
+use mathlib.Core.List.{List, [], _∷_, _++_}
 use Prim.Native.Nat.{ℕ, suc, _*_}
 use lib.Dec.{ltb, eqb}
 use lib.ListN.{length}
@@ -13,7 +13,7 @@ use Rattle.refusal.specs.declared.Refusal.the-variants.{Size, SampleCoun
 use Rattle.refusal.specs.declared.Checked.{Checked}
 use Rattle.refusal.specs.declared.Checked.the-variants.{Passed, Refused}
 
--- the document's number of a refusal; a NaN's comes with the lowest index
+-- the document's number of a refusal
 abbrev pub numberOf : Refusal → ℕ
 numberOf Size = 1
 numberOf SampleCount = 2
@@ -24,6 +24,18 @@ numberOf NoSuchBlock = 6
 numberOf (SampleIsNan i) = 7
 numberOf WordMalformed = 8
 
+-- What a refusal brings with it, as four numbers: what, index, row and column. Where it has something to say all four are written, 0 for what it says
+-- nothing about; where it has not they stay as they were. Refusal 7 says the lowest index.
+abbrev pub detailOf : Refusal → List ℕ → List ℕ
+detailOf (SampleIsNan i) before = 0 ∷ i ∷ 0 ∷ 0 ∷ []
+detailOf Size before = before
+detailOf SampleCount before = before
+detailOf EncodedLength before = before
+detailOf OutputLength before = before
+detailOf DitheredResend before = before
+detailOf NoSuchBlock before = before
+detailOf WordMalformed before = before
+
 -- ---- a check: a refusal, and whether it applies
 pub record Check : Type 0 where
   pub refusal : Refusal
@@ -32,9 +44,15 @@ pub record Check : Type 0 where
 abbrev pub when : Refusal → Bool → Check
 when refusal applies = record { refusal = refusal; applies = applies }
 
-unfoldable pub lowest : List Check → Checked
-lowest [] = Passed
-lowest (c ∷ cs) = cond (c .applies) (Refused (c .refusal)) (lowest cs)
+-- the first check of a list that applies
+unfoldable pub firstOf : List Check → Checked
+firstOf [] = Passed
+firstOf (c ∷ cs) = cond (c .applies) (Refused (c .refusal)) (firstOf cs)
+
+-- What a call answers, or leaves in lent memory: what it makes of a refusal, and its value where all checks passed.
+abbrev pub answered : {A : Type 0} → (Refusal → A) → A → Checked → A
+answered refused value Passed = value
+answered refused value (Refused q) = refused q
 
 -- ---- each check once
 -- the index of the first NaN, or the length where there is none
@@ -86,7 +104,9 @@ abbrev pub viewChecks : ℕ → ℕ → ℕ → ℕ → ℕ → List Check
 viewChecks long width height column row =
     sizeCheck width height ∷ lengthCheck long (encodedLength width height) ∷ placeCheck width height column row ∷ []
 
--- of a call whose options word is malformed: 8 comes after what the call refuses for another reason
+-- a call's checks, and after all of them that of its options word
+abbrev pub andWord : List Check → Bool → List Check
+andWord checks malformed = checks ++ when WordMalformed malformed ∷ []
+
 abbrev pub orMalformed : Checked → Refusal
-orMalformed Passed = WordMalformed
-orMalformed (Refused q) = q
+orMalformed = answered (λ q. q) WordMalformed

@@ -1,9 +1,9 @@
-// Document 01, "Calls and numbers": every refusal, its number, and the checks of each call, in number order.
+// Document 01, "Calls and numbers": every refusal, its number, what it brings with it, and the checks of each call in their order.
 ghost use mathlib.Core.Path.{_≡_};
 ghost use mathlib.Core.List.{[], _∷_};
 ghost use lib.Dec.{ltb};
 ghost use lib.ListN.{length};
-ghost use Rattle.refusal.specs.Refusals.{numberOf, lowest, orMalformed, firstNan, nanCheck, encodeChecks, decodeChecks, errorChecks, resendChecks, tileChecks, viewChecks};
+ghost use Rattle.refusal.specs.Refusals.{numberOf, detailOf, firstOf, orMalformed, firstNan, nanCheck, encodeChecks, decodeChecks, errorChecks, resendChecks, tileChecks, viewChecks};
 use options::Options;
 
 pub enum Refusal {
@@ -45,6 +45,15 @@ pub fn number(refusal: Refusal) -> u8
     }
 }
 
+// What a refusal brings with it: what, index, row and column, 0 for what it says nothing about. Where it has nothing to say they stay.
+pub fn detail(refusal: Refusal, numbers: &mut [usize; 4])
+    ensures { λ _. ⌜ now (numbers .exit) ≡ detailOf refusal (now (numbers .entry)) ⌝ }
+{
+    if let Refusal::SampleIsNan(i) = refusal {
+        *numbers = [0, i, 0, 0];
+    }
+}
+
 // Looks at all of them: without a way out of its loop it takes four at a time.
 fn any_nan(samples: &[f32]) -> bool
     ensures { λ r. ⌜ r ≡ ltb (firstNan (now (samples .entry))) (length (now (samples .entry))) ⌝ }
@@ -75,7 +84,7 @@ fn first_nan(samples: &[f32]) -> usize
 }
 
 fn no_nan(samples: &[f32]) -> Checked
-    ensures { λ r. ⌜ r ≡ lowest (nanCheck (now (samples .entry)) ∷ []) ⌝ }
+    ensures { λ r. ⌜ r ≡ firstOf (nanCheck (now (samples .entry)) ∷ []) ⌝ }
 {
     if any_nan(samples) {
         return Checked::Refused(Refusal::SampleIsNan(first_nan(samples)));
@@ -84,7 +93,7 @@ fn no_nan(samples: &[f32]) -> Checked
 }
 
 pub fn encode(samples: &[f32]) -> Checked
-    ensures { λ r. ⌜ r ≡ lowest (encodeChecks (now (samples .entry))) ⌝ }
+    ensures { λ r. ⌜ r ≡ firstOf (encodeChecks (now (samples .entry))) ⌝ }
 {
     if samples.len() != 16 {
         return Checked::Refused(Refusal::SampleCount);
@@ -93,7 +102,7 @@ pub fn encode(samples: &[f32]) -> Checked
 }
 
 pub fn decode(encoded: &[u8]) -> Checked
-    ensures { λ r. ⌜ r ≡ lowest (decodeChecks (now (encoded .entry))) ⌝ }
+    ensures { λ r. ⌜ r ≡ firstOf (decodeChecks (now (encoded .entry))) ⌝ }
 {
     if encoded.len() != 8 {
         return Checked::Refused(Refusal::EncodedLength);
@@ -102,7 +111,7 @@ pub fn decode(encoded: &[u8]) -> Checked
 }
 
 pub fn error(samples: &[f32], encoded: &[u8]) -> Checked
-    ensures { λ r. ⌜ r ≡ lowest (errorChecks (now (samples .entry)) (now (encoded .entry))) ⌝ }
+    ensures { λ r. ⌜ r ≡ firstOf (errorChecks (now (samples .entry)) (now (encoded .entry))) ⌝ }
 {
     if samples.len() != 16 {
         return Checked::Refused(Refusal::SampleCount);
@@ -114,7 +123,7 @@ pub fn error(samples: &[f32], encoded: &[u8]) -> Checked
 }
 
 pub fn resend(samples: &[f32], held: &[u8], o: Options) -> Checked
-    ensures { λ r. ⌜ r ≡ lowest (resendChecks (now (samples .entry)) (now (held .entry)) o) ⌝ }
+    ensures { λ r. ⌜ r ≡ firstOf (resendChecks (now (samples .entry)) (now (held .entry)) o) ⌝ }
 {
     if samples.len() != 16 {
         return Checked::Refused(Refusal::SampleCount);
@@ -130,22 +139,23 @@ pub fn resend(samples: &[f32], held: &[u8], o: Options) -> Checked
 
 // `room` is the length of the output.
 pub fn tile(samples: &[f32], width: usize, height: usize, room: usize) -> Checked
-    ensures { λ r. ⌜ r ≡ lowest (tileChecks (now (samples .entry)) width height room) ⌝ }
+    ensures { λ r. ⌜ r ≡ firstOf (tileChecks (now (samples .entry)) width height room) ⌝ }
 {
     if place::bad_size(width, height) {
         return Checked::Refused(Refusal::Size);
     }
-    if samples.len() != width * height {
+    let area = width * height;
+    if samples.len() != area {
         return Checked::Refused(Refusal::SampleCount);
     }
-    if room < width * height / 2 {
+    if room < area / 2 {
         return Checked::Refused(Refusal::OutputLength);
     }
     no_nan(samples)
 }
 
 pub fn view(tile: &[u8], width: usize, height: usize, column: usize, row: usize) -> Checked
-    ensures { λ r. ⌜ r ≡ lowest (viewChecks (length (now (tile .entry))) width height column row) ⌝ }
+    ensures { λ r. ⌜ r ≡ firstOf (viewChecks (length (now (tile .entry))) width height column row) ⌝ }
 {
     if place::bad_size(width, height) {
         return Checked::Refused(Refusal::Size);

@@ -2,7 +2,6 @@ use mathlib.Core.Path.{_≡_, sym, _∙_}
 use Prim.Native.Nat.{_+_, _-_}
 use native.Mathlib.Omega.{arith}
 use Rattle.place.specs.Place.{blockAt}
-use Rattle.bc4.specs.Calls.{viewOn}
 use Rattle.refusal.proofs.Views.{view-room}
 use borrow.Author.Needs.{needs}
 use Rattle.bc4.proofs.block_view.Statement.{statement}
@@ -54,11 +53,9 @@ part-result-end-2 c =
     search needs
 
 returns : tie.Need-returns
-unfolding viewOn
 returns c = rw (← c .before .before .before .view-refusal .ensures, c .before .enum-told .given .1)
 
 returns-2 : tie.Need-returns-2
-unfolding viewOn
 returns-2 c =
     let t = c .before .before in
     let a = t .before .before .before .before .args in

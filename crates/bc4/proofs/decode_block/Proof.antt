@@ -1,6 +1,5 @@
-use mathlib.Core.Path.{refl, sym, _∙_}
-use Rattle.bc4.specs.Calls.{samplesAfter}
-use Rattle.refusal.proofs.Lowest.{lowest-clear, same-of}
+use mathlib.Core.Path.{refl}
+use Rattle.refusal.proofs.Firsts.{passed-clear, same-of}
 use borrow.Author.Needs.{needs}
 use Rattle.bc4.proofs.decode_block.Statement.{statement}
 use Rattle.bc4.proofs.decode_block.Tie as tie
@@ -15,17 +14,15 @@ enum-told : tie.Need-enum-told
 enum-told c = search needs
 
 from-bytes-requires : tie.Need-from-bytes-requires
-from-bytes-requires c κs = same-of _ _ (lowest-clear _ (sym (c .before .before .decode .ensures) ∙ c .enum-told .given .1) .0)
+from-bytes-requires c κs = same-of _ _ (passed-clear _ (c .before .before .decode .ensures) (c .enum-told .given .1) .0)
 
 decode-into-requires : tie.Need-decode-into-requires
 decode-into-requires c κs = search needs
 
 returns : tie.Need-returns
-unfolding samplesAfter
 returns c = (rw (← c .before .before .before .decode .ensures, c .before .checked .given .1), refl)
 
 returns-2 : tie.Need-returns-2
-unfolding samplesAfter
 returns-2 c = (rw (← c .before .before .before .before .before .decode .ensures, c .before .before .before .enum-told .given .1), rw (c .decode-into .ensures, c .before .before .from-bytes .ensures))
 
 pub decode-block-spec : {M : Type 1} → statement M

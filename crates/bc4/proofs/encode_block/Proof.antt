@@ -1,5 +1,4 @@
-use Rattle.bc4.specs.Calls.{encodedOn}
-use Rattle.refusal.proofs.Lowest.{passed-clear, same-of}
+use Rattle.refusal.proofs.Firsts.{passed-clear, same-of}
 use borrow.Author.Needs.{needs}
 use Rattle.bc4.proofs.encode_block.Statement.{statement}
 use Rattle.bc4.proofs.encode_block.Tie as tie
@@ -14,17 +13,15 @@ enum-told : tie.Need-enum-told
 enum-told c = search needs
 
 sixteen-requires : tie.Need-sixteen-requires
-sixteen-requires c κs = same-of _ _ (passed-clear _ _ (c .before .before .encode .ensures) (c .enum-told .given .1) .0)
+sixteen-requires c κs = same-of _ _ (passed-clear _ (c .before .before .encode .ensures) (c .enum-told .given .1) .0)
 
 compress-bc4-block-requires : tie.Need-compress-bc4-block-requires
 compress-bc4-block-requires c κs = search needs
 
 returns : tie.Need-returns
-unfolding encodedOn
 returns c = rw (← c .before .before .before .encode .ensures, c .before .checked .given .1)
 
 returns-2 : tie.Need-returns-2
-unfolding encodedOn
 returns-2 c = rw (← c .before .before .before .before .before .encode .ensures, c .before .before .before .enum-told .given .1, c .compress-bc4-block .ensures, c .before .before .sixteen .ensures)
 
 pub encode-block-spec : {M : Type 1} → statement M

@@ -10,11 +10,8 @@ view-refusal-requires c κs = search needs
 enum-known-checked : tie.Need-enum-known-checked
 enum-known-checked c = search needs
 
-number-requires : tie.Need-number-requires
-number-requires c κs = search needs
-
-wide-requires : tie.Need-wide-requires
-wide-requires c κs = search needs
+refused-requires : tie.Need-refused-requires
+refused-requires c κs = search needs
 
 enum-told : tie.Need-enum-told
 enum-told c = search needs
@@ -26,12 +23,12 @@ block-at-requires c κs =
     search needs
 
 returns : tie.Need-returns
-returns c = rw (← c .before .before .before .before .before .view-refusal .ensures, c .before .before .before .checked .given .1) (c .wide .ensures ∙ c .before .number .ensures, refl)
+returns c = rw (← c .before .before .before .before .before .view-refusal .ensures, c .before .before .before .checked .given .1) (c .refused .ensures .0, (refl, c .refused .ensures .1))
 
 returns-2 : tie.Need-returns-2
 returns-2 c =
     let t = c .before in
-    rw (← t .before .before .view-refusal .ensures, t .enum-told .given .1) (refl, c .block-at .ensures)
+    rw (← t .before .before .view-refusal .ensures, t .enum-told .given .1) (refl, (c .block-at .ensures, refl))
 
 pub bc4-block-view-spec : {M : Type 1} → statement M
 bc4-block-view-spec =
@@ -39,8 +36,7 @@ bc4-block-view-spec =
     (tie.spec
     view-refusal-requires
     enum-known-checked
-    number-requires
-    wide-requires
+    refused-requires
     enum-told
     block-at-requires
     returns

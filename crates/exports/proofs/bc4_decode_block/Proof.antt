@@ -1,3 +1,4 @@
+use mathlib.Core.Path.{refl}
 use borrow.Author.Needs.{needs}
 use Rattle.exports.proofs.bc4_decode_block.Statement.{statement}
 use Rattle.exports.proofs.bc4_decode_block.Tie as tie
@@ -5,11 +6,31 @@ use Rattle.exports.proofs.bc4_decode_block.Tie as tie
 decode-block-requires : tie.Need-decode-block-requires
 decode-block-requires c κs = search needs
 
-number-in-requires : tie.Need-number-in-requires
-number-in-requires c κs = search needs
+enum-known-checked : tie.Need-enum-known-checked
+enum-known-checked c = search needs
+
+refused-requires : tie.Need-refused-requires
+refused-requires c κs = search needs
+
+enum-told : tie.Need-enum-told
+enum-told c = search needs
 
 returns : tie.Need-returns
-returns c = rw (← c .before .decode-block .ensures .0) (c .number-in .ensures, c .before .decode-block .ensures .1)
+returns c =
+    let e = c .before .before .before .before .before .decode-block .ensures in
+    let refused = c .before .before .before .checked .given .1 in
+    rw (← e .0, refused) (c .refused .ensures .0, (rw refused at (e .1), c .refused .ensures .1))
+
+returns-2 : tie.Need-returns-2
+returns-2 c = let e = c .before .before .decode-block .ensures in rw (← e .0, c .enum-told .given .1) (refl, (rw (c .enum-told .given .1) at (e .1), refl))
 
 pub bc4-decode-block-spec : {M : Type 1} → statement M
-bc4-decode-block-spec = tie.close (tie.spec decode-block-requires number-in-requires returns)
+bc4-decode-block-spec =
+    tie.close
+    (tie.spec
+    decode-block-requires
+    enum-known-checked
+    refused-requires
+    enum-told
+    returns
+    returns-2)

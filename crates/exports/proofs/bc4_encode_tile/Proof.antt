@@ -22,13 +22,13 @@ same-length : tie.Need-same-length
 same-length c = search needs
 
 returns : tie.Need-returns
-returns c = let e = c .before .before .before .before .before .encode-tile .ensures in rw (← c .before .before .before .before .before .before .before .word-in .ensures, ← e .0, c .before .answer .given .1) (refl, (rw (← c .before .answer .given .1) (e .1), (refl, refl)))
+returns c = let e = c .before .before .before .before .before .encode-tile .ensures in rw (← c .before .before .before .before .before .before .before .word-in .ensures, ← e .0, c .before .answer .given .1) (refl, (rw (c .before .answer .given .1) at (e .1), (refl, refl)))
 
 same-length-2 : tie.Need-same-length-2
 same-length-2 c = search needs
 
 returns-2 : tie.Need-returns-2
-returns-2 c = let e = c .before .before .before .before .before .before .before .encode-tile .ensures in rw (← c .before .before .before .before .before .before .before .before .before .word-in .ensures, ← e .0, c .before .before .before .answer2 .given .1) (c .refused .ensures .0, (rw (← c .before .before .before .answer2 .given .1) (e .1), (refl, c .refused .ensures .1)))
+returns-2 c = let e = c .before .before .before .before .before .before .before .encode-tile .ensures in rw (← c .before .before .before .before .before .before .before .before .before .word-in .ensures, ← e .0, c .before .before .before .answer2 .given .1) (c .refused .ensures .0, (rw (c .before .before .before .answer2 .given .1) at (e .1), (refl, c .refused .ensures .1)))
 
 pub bc4-encode-tile-spec : {M : Type 1} → statement M
 bc4-encode-tile-spec =

@@ -1,14 +1,14 @@
 use borrow.Author.Tests.{eq-eqb, ne-eqb}
-use Rattle.refusal.specs.Refusals.{lowest}
+use Rattle.refusal.specs.Refusals.{firstOf}
 use Rattle.refusal.proofs.decode.Statement.{statement}
 use Rattle.refusal.proofs.decode.Tie as tie
 
 returns : tie.Need-returns
-unfolding lowest
+unfolding firstOf
 returns c = rw (ne-eqb _ _ (c .if1 .taken))
 
 returns-2 : tie.Need-returns-2
-unfolding lowest
+unfolding firstOf
 returns-2 c = rw (eq-eqb _ _ (c .if1 .left))
 
 pub decode-spec : {M : Type 1} → statement M

@@ -1,5 +1,5 @@
 use borrow.Author.Needs.{needs}
-use Rattle.refusal.specs.Refusals.{lowest}
+use Rattle.refusal.specs.Refusals.{firstOf}
 use Rattle.refusal.proofs.no_nan.Statement.{statement}
 use Rattle.refusal.proofs.no_nan.Tie as tie
 
@@ -10,11 +10,11 @@ first-nan-requires : tie.Need-first-nan-requires
 first-nan-requires c κs = search needs
 
 returns : tie.Need-returns
-unfolding lowest
+unfolding firstOf
 returns c = rw (← c .before .before .any-nan .ensures, c .before .if1 .taken, ← c .first-nan .ensures)
 
 returns-2 : tie.Need-returns-2
-unfolding lowest
+unfolding firstOf
 returns-2 c = rw (← c .before .any-nan .ensures, c .if1 .left)
 
 pub no-nan-spec : {M : Type 1} → statement M

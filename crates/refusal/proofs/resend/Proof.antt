@@ -1,26 +1,26 @@
 use borrow.Author.Tests.{eq-eqb, ne-eqb}
-use Rattle.refusal.specs.Refusals.{lowest}
+use Rattle.refusal.specs.Refusals.{firstOf}
 use borrow.Author.Needs.{needs}
 use Rattle.refusal.proofs.resend.Statement.{statement}
 use Rattle.refusal.proofs.resend.Tie as tie
 
 returns : tie.Need-returns
-unfolding lowest
+unfolding firstOf
 returns c = rw (ne-eqb _ _ (c .if1 .taken))
 
 returns-2 : tie.Need-returns-2
-unfolding lowest
+unfolding firstOf
 returns-2 c = rw (eq-eqb _ _ (c .before .if1 .left), ne-eqb _ _ (c .if2 .taken))
 
 returns-3 : tie.Need-returns-3
-unfolding lowest
+unfolding firstOf
 returns-3 c = rw (eq-eqb _ _ (c .before .before .if1 .left), eq-eqb _ _ (c .before .if2 .left), c .if3 .taken)
 
 no-nan-requires : tie.Need-no-nan-requires
 no-nan-requires c κs = search needs
 
 returns-4 : tie.Need-returns-4
-unfolding lowest
+unfolding firstOf
 returns-4 c = rw (eq-eqb _ _ (c .before .before .before .if1 .left), eq-eqb _ _ (c .before .before .if2 .left), c .before .if3 .left) (c .no-nan .ensures)
 
 pub resend-spec : {M : Type 1} → statement M

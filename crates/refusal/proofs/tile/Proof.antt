@@ -1,7 +1,7 @@
 use mathlib.Core.Path.{sym, _∙_}
 use Rattle.place.proofs.Places.{size-small}
 use borrow.Author.Tests.{eq-eqb, ne-eqb, lt-ltb, le-ltb}
-use Rattle.refusal.specs.Refusals.{lowest}
+use Rattle.refusal.specs.Refusals.{firstOf}
 use borrow.Author.Needs.{needs}
 use Rattle.refusal.proofs.tile.Statement.{statement}
 use Rattle.refusal.proofs.tile.Tie as tie
@@ -10,28 +10,25 @@ bad-size-requires : tie.Need-bad-size-requires
 bad-size-requires c κs = search needs
 
 returns : tie.Need-returns
-unfolding lowest
+unfolding firstOf
 returns c = rw (← c .before .bad-size .ensures, c .if1 .taken)
 
-mul-if2 : tie.Need-mul-if2
-mul-if2 c = let small = size-small _ _ (sym (c .before .bad-size .ensures) ∙ c .if1 .left) in search needs
+mul-area : tie.Need-mul-area
+mul-area c = let small = size-small _ _ (sym (c .before .bad-size .ensures) ∙ c .if1 .left) in search needs
 
 returns-2 : tie.Need-returns-2
-unfolding lowest
+unfolding firstOf
 returns-2 c = rw (← c .before .before .bad-size .ensures, c .before .if1 .left, ne-eqb _ _ (c .if2 .taken))
 
-mul-if3 : tie.Need-mul-if3
-mul-if3 c = search needs
-
 returns-3 : tie.Need-returns-3
-unfolding lowest
+unfolding firstOf
 returns-3 c = rw (← c .before .before .before .bad-size .ensures, c .before .before .if1 .left, eq-eqb _ _ (c .before .if2 .left), lt-ltb _ _ (c .if3 .taken))
 
 no-nan-requires : tie.Need-no-nan-requires
 no-nan-requires c κs = search needs
 
 returns-4 : tie.Need-returns-4
-unfolding lowest
+unfolding firstOf
 returns-4 c = rw (← c .before .before .before .before .bad-size .ensures, c .before .before .before .if1 .left, eq-eqb _ _ (c .before .before .if2 .left), le-ltb _ _ (c .before .if3 .left)) (c .no-nan .ensures)
 
 pub tile-spec : {M : Type 1} → statement M
@@ -40,9 +37,8 @@ tile-spec =
     (tie.spec
     bad-size-requires
     returns
-    mul-if2
+    mul-area
     returns-2
-    mul-if3
     returns-3
     no-nan-requires
     returns-4)

@@ -1,7 +1,7 @@
 use mathlib.Core.Path.{sym, _∙_}
 use Rattle.place.proofs.Places.{size-small}
 use borrow.Author.Tests.{eq-eqb, ne-eqb}
-use Rattle.refusal.specs.Refusals.{lowest}
+use Rattle.refusal.specs.Refusals.{firstOf}
 use borrow.Author.Needs.{needs}
 use Rattle.refusal.proofs.view.Statement.{statement}
 use Rattle.refusal.proofs.view.Tie as tie
@@ -10,22 +10,22 @@ bad-size-requires : tie.Need-bad-size-requires
 bad-size-requires c κs = search needs
 
 returns : tie.Need-returns
-unfolding lowest
+unfolding firstOf
 returns c = rw (← c .before .bad-size .ensures, c .if1 .taken)
 
 mul-if2 : tie.Need-mul-if2
 mul-if2 c = let small = size-small _ _ (sym (c .before .bad-size .ensures) ∙ c .if1 .left) in search needs
 
 returns-2 : tie.Need-returns-2
-unfolding lowest
+unfolding firstOf
 returns-2 c = rw (← c .before .before .bad-size .ensures, c .before .if1 .left, ne-eqb _ _ (c .if2 .taken))
 
 returns-3 : tie.Need-returns-3
-unfolding lowest
+unfolding firstOf
 returns-3 c = rw (← c .before .before .before .bad-size .ensures, c .before .before .if1 .left, eq-eqb _ _ (c .before .if2 .left), c .if3 .taken)
 
 returns-4 : tie.Need-returns-4
-unfolding lowest
+unfolding firstOf
 returns-4 c = rw (← c .before .before .before .bad-size .ensures, c .before .before .if1 .left, eq-eqb _ _ (c .before .if2 .left), c .if3 .left)
 
 pub view-spec : {M : Type 1} → statement M

@@ -1,6 +1,5 @@
 use Rattle.refusal.specs.Refusals.{encodeChecks}
-use Rattle.bc4.specs.Calls.{encodedOn}
-use Rattle.refusal.proofs.Lowest.{malformed-last, formed-last}
+use Rattle.refusal.proofs.Firsts.{word-last}
 use borrow.Author.Needs.{needs}
 use Rattle.bc4.proofs.word.encode_block.Statement.{statement}
 use Rattle.bc4.proofs.word.encode_block.Tie as tie
@@ -12,17 +11,15 @@ or-malformed-requires : tie.Need-or-malformed-requires
 or-malformed-requires c κs = search needs
 
 returns : tie.Need-returns
-unfolding encodedOn
 returns c =
     let a = c .before .before .before .before .args in
-    rw (c .before .before .if1 .taken, malformed-last (encodeChecks (a .samples .now)), c .or-malformed .ensures, c .before .encode .ensures)
+    rw (word-last (encodeChecks (a .samples .now)) _, c .before .before .if1 .taken, c .or-malformed .ensures, c .before .encode .ensures)
 
 encode-block-requires : tie.Need-encode-block-requires
 encode-block-requires c κs = search needs
 
 returns-2 : tie.Need-returns-2
-unfolding encodedOn
-returns-2 c = let a = c .before .before .before .args in rw (c .before .if1 .left, formed-last (encodeChecks (a .samples .now))) (c .encode-block .ensures)
+returns-2 c = let a = c .before .before .before .args in rw (word-last (encodeChecks (a .samples .now)) _, c .before .if1 .left) (c .encode-block .ensures)
 
 pub encode-block-spec : {M : Type 1} → statement M
 encode-block-spec =

@@ -1,8 +1,7 @@
 use mathlib.Core.Path.{refl}
 use lib.ListN.{length}
 use Rattle.refusal.specs.Refusals.{tileChecks}
-use Rattle.bc4.specs.Calls.{tiledOn, outAfter}
-use Rattle.refusal.proofs.Lowest.{malformed-last, formed-last}
+use Rattle.refusal.proofs.Firsts.{word-last}
 use borrow.Author.Needs.{needs}
 use Rattle.bc4.proofs.word.encode_tile.Statement.{statement}
 use Rattle.bc4.proofs.word.encode_tile.Tie as tie
@@ -14,10 +13,9 @@ or-malformed-requires : tie.Need-or-malformed-requires
 or-malformed-requires c κs = search needs
 
 returns : tie.Need-returns
-unfolding tiledOn outAfter
 returns c =
     let a = c .before .before .before .before .before .args in
-    (rw (c .before .before .if1 .taken, malformed-last (tileChecks (a .samples .now) (a .width) (a .height) (length (a .out .now))), c .or-malformed .ensures, c .before .tile .ensures), refl)
+    (rw (word-last (tileChecks (a .samples .now) (a .width) (a .height) (length (a .out .now))) _, c .before .before .if1 .taken, c .or-malformed .ensures, c .before .tile .ensures), refl)
 
 encode-tile-requires : tie.Need-encode-tile-requires
 encode-tile-requires c κs = search needs
@@ -26,10 +24,9 @@ same-length : tie.Need-same-length
 same-length c = search needs
 
 returns-2 : tie.Need-returns-2
-unfolding tiledOn
 returns-2 c =
     let a = c .before .before .before .before .before .before .before .args in
-    (rw (c .before .before .before .before .if1 .left, formed-last (tileChecks (a .samples .now) (a .width) (a .height) (length (a .out .now)))) (c .before .before .encode-tile .ensures .0), c .before .before .encode-tile .ensures .1)
+    (rw (word-last (tileChecks (a .samples .now) (a .width) (a .height) (length (a .out .now))) _, c .before .before .before .before .if1 .left) (c .before .before .encode-tile .ensures .0), c .before .before .encode-tile .ensures .1)
 
 pub encode-tile-spec : {M : Type 1} → statement M
 encode-tile-spec =

@@ -1,6 +1,5 @@
 use Rattle.refusal.specs.Refusals.{resendChecks}
-use Rattle.bc4.specs.Calls.{resentOn}
-use Rattle.refusal.proofs.Lowest.{malformed-last, formed-last}
+use Rattle.refusal.proofs.Firsts.{word-last}
 use borrow.Author.Needs.{needs}
 use Rattle.bc4.proofs.word.resend.Statement.{statement}
 use Rattle.bc4.proofs.word.resend.Tie as tie
@@ -12,19 +11,17 @@ or-malformed-requires : tie.Need-or-malformed-requires
 or-malformed-requires c κs = search needs
 
 returns : tie.Need-returns
-unfolding resentOn
 returns c =
     let a = c .before .before .before .before .before .args in
-    rw (c .before .before .if1 .taken, malformed-last (resendChecks (a .samples .now) (a .held .now) (a .w .options)), c .or-malformed .ensures, c .before .resend .ensures)
+    rw (word-last (resendChecks (a .samples .now) (a .held .now) (a .w .options)) _, c .before .before .if1 .taken, c .or-malformed .ensures, c .before .resend .ensures)
 
 resend-requires-2 : tie.Need-resend-requires-2
 resend-requires-2 c κs = search needs
 
 returns-2 : tie.Need-returns-2
-unfolding resentOn
 returns-2 c =
     let a = c .before .before .before .before .args in
-    rw (c .before .if1 .left, formed-last (resendChecks (a .samples .now) (a .held .now) (a .w .options))) (c .resend2 .ensures)
+    rw (word-last (resendChecks (a .samples .now) (a .held .now) (a .w .options)) _, c .before .if1 .left) (c .resend2 .ensures)
 
 pub resend-spec : {M : Type 1} → statement M
 resend-spec =
