@@ -1,4 +1,3 @@
 pub mod Arithmetic
 pub mod Helpers
-pub mod Scan
 pub mod Bounds

@@ -4,7 +4,6 @@ use mathlib.Core.List.{List, [], _∷_}
 use mathlib.Core.Logic.{dite}
 use Prim.Native.Nat.{ℕ, zero, suc, _+_, _-_, _*_, _/_, _%_, _^_, _<_, _≤_}
 use native.Mathlib.Nat.{add-mul-div-right, div-eq-of-lt, div-lt-iff-lt-mul, div-one, lt-of-lt-of-le, mul-assoc}
-use native.Mathlib.Numerals.{add-one}
 use native.Mathlib.Decide.{decLt}
 use native.Mathlib.Omega.{arith}
 use lib.Arith.{digits-lt}
@@ -45,11 +44,6 @@ set-lt d i v m small unset le lt =
     let none : setAt d i v / 2 ^ m < 1 = omega (arith, above d i v m small unset le, div-eq-of-lt lt) in
     omega (arith, div-lt-iff-lt-mul (pow-pos m) .0 none)
 
--- One pixel more.
-pub filled-more : (f : ℕ → ℕ) (n : ℕ) → filledTo f (n + 1) ≡ setAt (filledTo f n) n (f n)
-unfolding filledTo
-filled-more f n = rw add-one
-
 -- n pixels take 3n bits.
 pub filled-lt : (f : ℕ → ℕ) (n : ℕ) → ((k : ℕ) → k < n → f k < 8) → filledTo f n < 2 ^ (3 * n)
 unfolding filledTo
@@ -81,10 +75,6 @@ pub filled-same : (f g : ℕ → ℕ) (n : ℕ) → ((k : ℕ) → k < n → f k
 unfolding filledTo
 filled-same f g zero same = refl
 filled-same f g (suc n) same = rw (filled-same f g n (λ k lt. same k (omega arith)), same n (omega arith))
-
--- A list made of one value reads as that value at each pixel.
-pub all-get : (v i : ℕ) → v < 8 → i < 16 → indexAt (filledTo (λ k. v) 16) i ≡ v
-all-get v i small lt = filled-get (λ k. v) 16 (λ k h. small) i lt
 
 -- bits below m are those of the m low bits
 pub bits-low : (d k w m : ℕ) → k + w ≤ m → d % 2 ^ m / 2 ^ k % 2 ^ w ≡ d / 2 ^ k % 2 ^ w
