@@ -1,8 +1,8 @@
 -- Each check says what the table's condition says.
 use mathlib.Core.Path.{_≡_, refl, sym, ap, _∙_, subst}
-use mathlib.Core.Bool.{Bool, true, false, not, cond, _||_}
+use mathlib.Core.Bool.{Bool, true, false, not, cond, _||_, or-assoc}
 use mathlib.Core.Logic.{_⊎_, inl, inr}
-use mathlib.Core.List.{List, [], _∷_, _++_}
+use mathlib.Core.List.{List, [], _∷_}
 use Prim.Native.Nat.{ℕ, zero, suc, _%_, _<_, _≤_}
 use native.Mathlib.Nat.{le-of-suc-le-suc}
 use native.Mathlib.Omega.{arith}
@@ -15,73 +15,21 @@ use Rattle.block.specs.Samples.{pixelAt}
 use Rattle.place.specs.Place.{longestSide, badSide, badSize, along, noBlock}
 use Rattle.refusal.specs.declared.Refusal.{Refusal}
 use Rattle.refusal.specs.declared.Refusal.the-variants.{SampleIsNan}
-use Rattle.refusal.specs.Refusals.{Check, firstNan}
+use Rattle.refusal.specs.Refusals.{when, nanCheck, firstNan}
 use Rattle.bc4.specs.Word.{wordOf}
-use Rattle.demands.specs.Demand1.{BadSide, Missing, BadWord, LowestNan, WhenNan, Iff}
-use Rattle.demands.proofs.Refusing.{Has}
+use Rattle.demands.specs.Demand1.{BadSide, Missing, BadWord, LowestNan, When, WhenNan, Iff}
+use Rattle.demands.proofs.Refusing.{Same}
 
--- ---- from one check to a list of them
-pub next-iff : {A B : Type 0} {H R : Type 0} → Iff A B → Iff H R → Iff (A ⊎ H) (B ⊎ R)
-next-iff {A} {B} {H} {R} f g = (there, back)
-  where
-    there : A ⊎ H → B ⊎ R
-    there (inl x) = inl (f .0 x)
-    there (inr y) = inr (g .0 y)
+pub when-same : {refusal : Refusal} {t : Bool} {P : Type 0} → Iff (t ≡ true) P → Same (when refusal t) (When refusal P)
+when-same f q = (λ x. (x .0, f .0 (x .1)), λ x. (x .0, f .1 (x .1)))
 
-    back : B ⊎ R → A ⊎ H
-    back (inl x) = inl (f .1 x)
-    back (inr y) = inr (g .1 y)
-
-pub last-iff : {A B : Type 0} → Iff A B → Iff (A ⊎ ⊥) B
-last-iff {A} {B} f = (there, λ x. inl (f .1 x))
-  where
-    there : A ⊎ ⊥ → B
-    there (inl x) = f .0 x
-    there (inr y) = absurd y
-
--- a refusal whose condition is another's
-pub when-iff : {E A B : Type 0} → Iff A B → Iff (E × A) (E × B)
-when-iff f = (λ x. (x .0, f .0 (x .1)), λ x. (x .0, f .1 (x .1)))
-
+-- ---- tests
 pub iff-refl : {A : Type 0} → Iff A A
 iff-refl = (λ x. x, λ x. x)
 
-iff-sym : {A B : Type 0} → Iff A B → Iff B A
-iff-sym f = (f .1, f .0)
-
-pub iff-trans : {A B C : Type 0} → Iff A B → Iff B C → Iff A C
-iff-trans f g = (λ x. g .0 (f .0 x), λ z. f .1 (g .1 z))
-
-either-way : {A B : Type 0} → A ⊎ B → B ⊎ A
-either-way (inl x) = inr x
-either-way (inr y) = inl y
-
-or-assoc : {A B C : Type 0} → Iff ((A ⊎ B) ⊎ C) (A ⊎ B ⊎ C)
-or-assoc {A} {B} {C} = (there, back)
-  where
-    there : (A ⊎ B) ⊎ C → A ⊎ B ⊎ C
-    there (inl (inl x)) = inl x
-    there (inl (inr y)) = inr (inl y)
-    there (inr z) = inr (inr z)
-
-    back : A ⊎ B ⊎ C → (A ⊎ B) ⊎ C
-    back (inl x) = inl (inl x)
-    back (inr (inl y)) = inl (inr y)
-    back (inr (inr z)) = inr z
-
--- one check more, after all others
-pub has-last : (cs : List Check) (c : Check) (q : Refusal) → Iff (Has (cs ++ c ∷ []) q) (Has cs q ⊎ ((q ≡ c .refusal) × (c .applies ≡ true)))
-has-last [] c q = (either-way, either-way)
-has-last (d ∷ cs) c q = iff-trans (next-iff iff-refl (has-last cs c q)) (iff-sym or-assoc)
-
--- ---- tests
-or-iff : (a b : Bool) → Iff (a || b ≡ true) ((a ≡ true) ⊎ (b ≡ true))
-or-iff true b = (λ e. inl refl, λ e. refl)
-or-iff false b = (λ e. inr e, back)
-  where
-    back : (false ≡ true) ⊎ (b ≡ true) → b ≡ true
-    back (inl e) = clash e refl
-    back (inr e) = e
+or-iff : (a b : Bool) {A B : Type 0} → Iff (a ≡ true) A → Iff (b ≡ true) B → Iff (a || b ≡ true) (A ⊎ B)
+or-iff true b f g = (λ e. inl (f .0 refl), λ x. refl)
+or-iff false b f g = (λ e. inr (g .0 e), λ x. elim x [ inl y ↦ clash (f .1 y) refl | inr z ↦ g .1 z ])
 
 pub unequal-iff : (m n : ℕ) → Iff (not (eqb m n) ≡ true) (m ≡ n → ⊥)
 unequal-iff m n = (λ e. eqb-false m n (not-true (eqb m n) e), λ f. ap not (ne-eqb m n f))
@@ -91,22 +39,18 @@ below-iff m n = (ltb-true m n, lt-ltb m n)
 
 side-iff : (n : ℕ) → Iff (badSide n ≡ true) (BadSide n)
 unfolding badSide
-side-iff n =
-    iff-trans (or-iff (eqb n 0 || ltb longestSide n) (not (eqb (n % 4) 0)))
-    (iff-trans (next-iff (iff-trans (or-iff (eqb n 0) (ltb longestSide n)) (next-iff (eqb-true n 0, eq-eqb n 0) (below-iff longestSide n))) (unequal-iff (n % 4) 0)) or-assoc)
+side-iff n = rw (or-assoc (eqb n 0) (ltb longestSide n)) (or-iff _ _ (eqb-true n 0, eq-eqb n 0) (or-iff _ _ (below-iff longestSide n) (unequal-iff (n % 4) 0)))
 
 pub size-iff : (width height : ℕ) → Iff (badSize width height ≡ true) (BadSide width ⊎ BadSide height)
 unfolding badSize
-size-iff width height = iff-trans (or-iff (badSide width) (badSide height)) (next-iff (side-iff width) (side-iff height))
+size-iff width height = or-iff _ _ (side-iff width) (side-iff height)
 
 pub place-iff : (width height column row : ℕ) → Iff (noBlock width height column row ≡ true) (Missing width height column row)
-place-iff width height column row =
-    iff-trans (or-iff (leb (along width) column) (leb (along height) row))
-    (next-iff (leb-true (along width) column, le-leb (along width) column) (leb-true (along height) row, le-leb (along height) row))
+place-iff width height column row = or-iff _ _ (leb-true (along width) column, le-leb (along width) column) (leb-true (along height) row, le-leb (along height) row)
 
 pub word-iff : (flags limit quality last : ℕ) → Iff (wordOf flags limit quality last .malformed ≡ true) (BadWord quality last)
 unfolding wordOf
-word-iff flags limit quality last = iff-trans (or-iff (ltb 2 quality) (not (eqb last 0))) (next-iff (below-iff 2 quality) (unequal-iff last 0))
+word-iff flags limit quality last = or-iff _ _ (below-iff 2 quality) (unequal-iff last 0)
 
 -- ---- the lowest index of a NaN
 lowest-nan : (s : List Float) → firstNan s < length s → LowestNan s (firstNan s)
@@ -130,8 +74,8 @@ nan-found (x ∷ s) (suc i) w =
     let rest = nan-found s i (record { within = le-of-suc-le-suc (w .within); there = w .there; none-lower = λ j l. w .none-lower (suc j) (omega arith) }) in
     rw (w .none-lower 0 (omega arith)) (ap suc rest)
 
-pub nan-iff : (q : Refusal) (s : List Float) → Iff ((q ≡ SampleIsNan (firstNan s)) × (ltb (firstNan s) (length s) ≡ true)) (WhenNan q s)
-nan-iff q s = (
+pub nan-same : (s : List Float) → Same (nanCheck s) (WhenNan s)
+nan-same s q = (
   λ x. (firstNan s, x .0, lowest-nan s (ltb-true (firstNan s) (length s) (x .1))),
   λ y.
       let found = nan-found s (y .0) (y .2) in

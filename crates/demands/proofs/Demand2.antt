@@ -1,7 +1,6 @@
 -- Demand 2.
-use mathlib.Core.Path.{_≡_, refl, sym, ap, _∙_, subst}
+use mathlib.Core.Path.{_≡_, refl, ap, _∙_, subst}
 use mathlib.Core.Bool.{false}
-use mathlib.Core.Logic.{inl, inr}
 use mathlib.Core.List.{List, _++_}
 use Prim.Native.Nat.{ℕ, _<_}
 use lib.ListN.{length, take, drop}
@@ -19,42 +18,34 @@ use Rattle.place.proofs.Places.{rows-length, block-within}
 use Rattle.tile.proofs.Stretches.{tile-length}
 use Rattle.tile.proofs.Blocks.{in-first, tile-block}
 use Rattle.place.proofs.Samples.{blockOf-length, blockOf-real}
-use Rattle.refusal.specs.declared.Refusal.{Refusal}
 use Rattle.refusal.specs.declared.Checked.{Checked}
 use Rattle.refusal.specs.declared.Checked.the-variants.{Passed, Refused}
 use Rattle.bc4.specs.declared.Encoded.the-variants.{Block}
-use Rattle.bc4.specs.declared.Tiled.{Tiled}
 use Rattle.bc4.specs.declared.Tiled.the-variants.{Written, Refused as NotTiled}
-use Rattle.refusal.specs.Refusals.{lowest, encodeChecks, tileChecks}
-use Rattle.bc4.specs.Calls.{ofTiled, encodedOn, encodeAnswer, samplesAfter, tiledOn, outAfter}
-use Rattle.refusal.proofs.Lowest.{apart, Clear, lowest-clear, same-of}
-use Rattle.demands.specs.Demand1.{EncodeRefuses}
+use Rattle.refusal.specs.Refusals.{firstOf, answered, encodeChecks, tileChecks}
+use Rattle.bc4.specs.Calls.{ofTiled, encodeAnswer}
+use Rattle.refusal.proofs.Firsts.{Clear, first-clear, same-of}
 use Rattle.demands.specs.Demand2.{Demand2}
 use Rattle.demands.proofs.Conditions.{nan-free}
 use Rattle.demands.proofs.Demand1.{encode-exactly}
 
-abbrev countOf : Tiled → ℕ
-countOf (Written n) = n
-countOf (NotTiled q) = 0
-
-answered : (s : List Float) (o : Options) → lowest (encodeChecks s) ≡ Passed → encodeAnswer s o ≡ Block (compressed s o)
-unfolding encodedOn
-answered s o e = rw e
+block-answer : (s : List Float) (o : Options) → firstOf (encodeChecks s) ≡ Passed → encodeAnswer s o ≡ Block (compressed s o)
+block-answer s o e = rw e
 
 -- what the block call asks of its samples
-accepted : (s : List Float) → length s ≡ 16 → ((i : ℕ) → i < 16 → isNan (pixelAt s i) ≡ false) → lowest (encodeChecks s) ≡ Passed
-accepted s long real = encode-exactly s .passed .1 none
-  where
-    none : (q : Refusal) → EncodeRefuses s q → ⊥
-    none q (inl x) = x .1 long
-    none q (inr y) = clash (y .2 .there) (real (y .0) (subst (λ (n : ℕ). y .0 < n) long (y .2 .within)))
+accepted : (s : List Float) → length s ≡ 16 → ((i : ℕ) → i < 16 → isNan (pixelAt s i) ≡ false) → firstOf (encodeChecks s) ≡ Passed
+accepted s long real =
+    encode-exactly s .passed .1 (
+      λ q x. x .1 long,
+      (λ q y. clash (y .2 .there) (real (y .0) (subst (λ (n : ℕ). y .0 < n) long (y .2 .within))), tt),
+    )
 
-module _ (s : List Float) (width height : ℕ) (o : Options) (out : List ℕ) (passed : lowest (tileChecks s width height (length out)) ≡ Passed) (column row : ℕ) (h : column < along width)
+module _ (s : List Float) (width height : ℕ) (o : Options) (out : List ℕ) (passed : firstOf (tileChecks s width height (length out)) ≡ Passed) (column row : ℕ) (h : column < along width)
     (k : row < along height) where
   clear : Clear (tileChecks s width height (length out))
-  clear = lowest-clear (tileChecks s width height (length out)) passed
+  clear = first-clear (tileChecks s width height (length out)) passed
 
-  block-accepted : lowest (encodeChecks (blockOf s width column row)) ≡ Passed
+  block-accepted : firstOf (encodeChecks (blockOf s width column row)) ≡ Passed
   block-accepted =
       accepted (blockOf s width column row) (blockOf-length s width column row)
       (blockOf-real s width height column row (same-of _ _ (clear .1 .0)) h k (nan-free s (ltb-false _ _ (clear .1 .1 .1 .0))))
@@ -65,17 +56,15 @@ module _ (s : List Float) (width height : ℕ) (o : Options) (out : List ℕ) (p
       in-first (tileBytes s width o (along height)) (drop (encodedLength width height) out) (blockAt width column row) (encodedLength width height) long
       (block-within width height (clear .0) column row h k) ∙ tile-block s width o (along height) column row h k
 
-count-is : (c : Checked) (width height n : ℕ) → tiledOn c width height ≡ Written n → (c ≡ Passed) × (n ≡ encodedLength width height)
-unfolding tiledOn
-count-is Passed width height n e = (refl, sym (ap countOf e))
-count-is (Refused q) width height n e = absurd (apart (ap ofTiled e))
+tile-passed : (c : Checked) (m n : ℕ) → answered NotTiled (Written m) c ≡ Written n → c ≡ Passed
+tile-passed Passed m n e = refl
+tile-passed (Refused q) m n e = ap ofTiled e
 
 pub demand-2 : Demand2
-unfolding samplesAfter outAfter
 demand-2 = record {
-  encoded = λ s o long real. answered s o (accepted s long real);
-  near = λ snorm encoded before i h. decoded-close snorm (fromBytes encoded) i h;
+  encoded = λ s o long real. block-answer s o (accepted s long real);
+  near = λ encoded snorm before i h. decoded-close snorm (fromBytes encoded) i h;
   tiled = λ s width height o out n e column row h k.
-      let counted = count-is (lowest (tileChecks s width height (length out))) width height n e in
-      (answered (blockOf s width column row) o (block-accepted s width height o out (counted .0) column row h k), rw (counted .1) (block-stands s width height o out (counted .0) column row h k));
+      let passed = tile-passed (firstOf (tileChecks s width height (length out))) _ n e in
+      (block-answer (blockOf s width column row) o (block-accepted s width height o out passed column row h k), block-stands s width height o out passed column row h k);
 }

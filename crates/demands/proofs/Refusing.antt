@@ -1,9 +1,9 @@
--- The lowest check that applies, for any list of checks in number order: exactly when.
-use mathlib.Core.Path.{_≡_, refl, sym, ap, _∙_, subst}
+-- The first check that applies, for any list of checks: exactly when. And where the numbers of the checks ascend: the lowest.
+use mathlib.Core.Path.{_≡_, refl, sym, ap, _∙_}
 use mathlib.Core.Bool.{Bool, true, false, cond}
 use mathlib.Core.Logic.{_⊎_, inl, inr}
-use mathlib.Core.List.{List, [], _∷_}
-use Prim.Native.Nat.{ℕ, _<_}
+use mathlib.Core.List.{List, [], _∷_, _++_}
+use Prim.Native.Nat.{ℕ, _<_, _≤_}
 use native.Mathlib.Omega.{arith}
 use lib.Dec.{T, ltb, lit<}
 use Rattle.floats.proofs.Tests.{clash}
@@ -11,16 +11,43 @@ use Rattle.floats.proofs.Table.{both, both-left, both-right}
 use Rattle.refusal.specs.declared.Refusal.{Refusal}
 use Rattle.refusal.specs.declared.Checked.{Checked}
 use Rattle.refusal.specs.declared.Checked.the-variants.{Passed, Refused}
-use Rattle.refusal.specs.Refusals.{numberOf, Check, lowest}
-use Rattle.refusal.proofs.Lowest.{apart}
-use Rattle.demands.specs.Demand1.{Iff, Exactly}
+use Rattle.refusal.specs.Refusals.{numberOf, Check, firstOf, answered}
+use Rattle.refusal.proofs.Firsts.{apart}
+use Rattle.demands.specs.Demand1.{Condition, Iff, Never, AnyOf, Exactly, InNumberOrder}
 
--- a check of the list is for q, and applies
-abbrev pub Has : List Check → Refusal → Type 0
-Has [] q = ⊥
-Has (c ∷ cs) q = ((q ≡ c .refusal) × (c .applies ≡ true)) ⊎ Has cs q
+-- a check and a condition say the same
+abbrev pub Same : Check → Condition → Type 0
+Same c C = (q : Refusal) → Iff ((q ≡ c .refusal) × (c .applies ≡ true)) (C q)
 
--- the numbers ascend, from above n
+-- at each place of two lists
+pub data Alike : List Check → List Condition → Type 1 where
+  end : Alike [] []
+  then : {c : Check} {C : Condition} {cs : List Check} {Cs : List Condition} → Same c C → Alike cs Cs → Alike (c ∷ cs) (C ∷ Cs)
+
+pub at-last : {c : Check} {C : Condition} {cs : List Check} {Cs : List Condition} → Alike cs Cs → Same c C → Alike (cs ++ c ∷ []) (Cs ++ C ∷ [])
+at-last end s = then s end
+at-last (then t rest) s = then t (at-last rest s)
+
+pub exactly : {cs : List Check} {Cs : List Condition} → Alike cs Cs → Exactly (firstOf cs) Cs
+unfolding firstOf
+exactly end = record { refused = λ q. (λ e. apart (sym e), λ x. absurd x); passed = (λ e. tt, λ x. refl) }
+exactly (then {c} {C} {cs} {Cs} same rest) = go (c .applies) refl (exactly rest)
+  where
+    go : (t : Bool) → c .applies ≡ t → Exactly (firstOf cs) Cs → Exactly (cond t (Refused (c .refusal)) (firstOf cs)) (C ∷ Cs)
+    go true t later =
+        let here : C (c .refusal) = same (c .refusal) .0 (refl, t) in
+        record {
+          refused = λ q. (λ e. let s : c .refusal ≡ q = cc in inl (rw (← s) here), λ f. elim f [ inl x ↦ ap Refused (sym (same q .1 x .0)) | inr y ↦ absurd (y .0 (c .refusal) here) ]);
+          passed = (λ e. absurd (apart e), λ none. absurd (none .0 (c .refusal) here));
+        }
+    go false t later =
+        let never : Never C = λ p x. clash (same p .1 x .1) t in
+        record {
+          refused = λ q. (λ e. inr (never, later .refused q .0 e), λ f. elim f [ inl x ↦ absurd (never q x) | inr y ↦ later .refused q .1 (y .1) ]);
+          passed = (λ e. (never, later .passed .0 e), λ none. later .passed .1 (none .1));
+        }
+
+-- ---- the numbers ascend, from above n
 abbrev pub ascends : ℕ → List Check → Bool
 ascends n [] = true
 ascends n (c ∷ cs) = both (ltb n (numberOf (c .refusal))) (ascends (numberOf (c .refusal)) cs)
@@ -32,75 +59,24 @@ module _ (n : ℕ) (c : Check) (cs : List Check) (a : T (ascends n (c ∷ cs))) 
   rest-ascends : T (ascends (numberOf (c .refusal)) cs)
   rest-ascends = both-right (ltb n (numberOf (c .refusal))) (ascends (numberOf (c .refusal)) cs) a
 
-above : (n : ℕ) (cs : List Check) (q : Refusal) → T (ascends n cs) → Has cs q → n < numberOf q
-above n [] q a h = absurd h
-above n (c ∷ cs) q a (inl h) = subst (λ (p : Refusal). n < numberOf p) (sym (h .0)) (first-above n c cs a)
-above n (c ∷ cs) q a (inr h) =
-    let later = above (numberOf (c .refusal)) cs q (rest-ascends n c cs a) h in
+above : {cs : List Check} {Cs : List Condition} → Alike cs Cs → (n : ℕ) (p : Refusal) → T (ascends n cs) → AnyOf Cs p → n < numberOf p
+above end n p a h = absurd h
+above (then {c} {C} {cs} same rest) n p a (inl x) = rw (same p .1 x .0) (first-above n c cs a)
+above (then {c} {C} {cs} same rest) n p a (inr y) =
+    let later = above rest (numberOf (c .refusal)) p (rest-ascends n c cs a) y in
     let here = first-above n c cs a in
     omega arith
 
-abbrev refusalOr : Refusal → Checked → Refusal
-refusalOr q Passed = q
-refusalOr q (Refused p) = p
-
-abbrev First : List Check → Refusal → Type 0
-First cs q = Has cs q × ((p : Refusal) → Has cs p → numberOf p < numberOf q → ⊥)
-
-given : (n : ℕ) (cs : List Check) (q : Refusal) → T (ascends n cs) → lowest cs ≡ Refused q → First cs q
-unfolding lowest
-given n [] q a e = absurd (apart (sym e))
-given n (c ∷ cs) q a e = go (c .applies) refl e (given (numberOf (c .refusal)) cs q (rest-ascends n c cs a))
+lowest : {cs : List Check} {Cs : List Condition} → Alike cs Cs → (n : ℕ) (q p : Refusal) → T (ascends n cs) → firstOf cs ≡ Refused q → AnyOf Cs p → numberOf q ≤ numberOf p
+unfolding firstOf
+lowest end n q p a e h = absurd h
+lowest (then {c} {C} {cs} {Cs} same rest) n q p a e h = go (c .applies) refl e h (lowest rest (numberOf (c .refusal)) q p (rest-ascends n c cs a))
   where
-    go : (t : Bool) → c .applies ≡ t → cond t (Refused (c .refusal)) (lowest cs) ≡ Refused q → (lowest cs ≡ Refused q → First cs q) → First (c ∷ cs) q
-    go true t e rest =
-        let same : c .refusal ≡ q = ap (refusalOr q) e in (
-          inl (sym same, t),
-          λ p h l. elim h [
-            | inl x ↦ let w : numberOf p ≡ numberOf q = ap numberOf (x .0 ∙ same) in omega arith
-            | inr x ↦ let w : numberOf (c .refusal) ≡ numberOf q = ap numberOf same in let u = above (numberOf (c .refusal)) cs p (rest-ascends n c cs a) x in omega arith
-          ],
-        )
-    go false t e rest =
-        let r = rest e in
-        (inr (r .0), λ p h l. elim h [ inl x ↦ clash (x .1) t | inr x ↦ r .1 p x l ])
+    go : (t : Bool) → c .applies ≡ t → cond t (Refused (c .refusal)) (firstOf cs) ≡ Refused q → AnyOf (C ∷ Cs) p → (firstOf cs ≡ Refused q → AnyOf Cs p → numberOf q ≤ numberOf p) → numberOf q ≤ numberOf p
+    go true t e (inl x) later = let s : numberOf q ≡ numberOf p = cc (same p .1 x .0) in omega arith
+    go true t e (inr y) later = let s : numberOf q ≡ numberOf (c .refusal) = cc in let u = above rest (numberOf (c .refusal)) p (rest-ascends n c cs a) y in omega arith
+    go false t e (inl x) later = absurd (clash (same p .1 x .1) t)
+    go false t e (inr y) later = later e y
 
-taken : (n : ℕ) (cs : List Check) (q : Refusal) → T (ascends n cs) → First cs q → lowest cs ≡ Refused q
-unfolding lowest
-taken n [] q a f = absurd (f .0)
-taken n (c ∷ cs) q a f = go (c .applies) refl (f .0) (taken (numberOf (c .refusal)) cs q (rest-ascends n c cs a))
-  where
-    go : (t : Bool) → c .applies ≡ t → Has (c ∷ cs) q → (First cs q → lowest cs ≡ Refused q) → cond t (Refused (c .refusal)) (lowest cs) ≡ Refused q
-    go true t (inl x) rest = ap Refused (sym (x .0))
-    go true t (inr x) rest = absurd (f .1 (c .refusal) (inl (refl, t)) (above (numberOf (c .refusal)) cs q (rest-ascends n c cs a) x))
-    go false t (inl x) rest = absurd (clash (x .1) t)
-    go false t (inr x) rest = rest (x, λ p h l. f .1 p (inr h) l)
-
-none : (cs : List Check) → lowest cs ≡ Passed → (q : Refusal) → Has cs q → ⊥
-unfolding lowest
-none [] e q h = h
-none (c ∷ cs) e q h = go (c .applies) refl e (none cs) h
-  where
-    go : (t : Bool) → c .applies ≡ t → cond t (Refused (c .refusal)) (lowest cs) ≡ Passed → (lowest cs ≡ Passed → (q : Refusal) → Has cs q → ⊥) → Has (c ∷ cs) q → ⊥
-    go true t e rest h = apart e
-    go false t e rest (inl x) = clash (x .1) t
-    go false t e rest (inr x) = rest e q x
-
-clear : (cs : List Check) → ((q : Refusal) → Has cs q → ⊥) → lowest cs ≡ Passed
-unfolding lowest
-clear [] f = refl
-clear (c ∷ cs) f = go (c .applies) refl (clear cs (λ q h. f q (inr h)))
-  where
-    go : (t : Bool) → c .applies ≡ t → lowest cs ≡ Passed → cond t (Refused (c .refusal)) (lowest cs) ≡ Passed
-    go true t rest = absurd (f (c .refusal) (inl (refl, t)))
-    go false t rest = rest
-
--- The law, over conditions that say the same as the checks.
-pub exactly : (cs : List Check) (R : Refusal → Type 0) → T (ascends 0 cs) → ((q : Refusal) → Iff (Has cs q) (R q)) → Exactly (lowest cs) R
-exactly cs R a same = record {
-  refused = λ q. (
-    λ e. let f = given 0 cs q a e in (same q .0 (f .0), λ p r l. f .1 p (same p .1 r) l),
-    λ f. taken 0 cs q a (same q .1 (f .0), λ p h l. f .1 p (same p .0 h) l),
-  );
-  passed = (λ e q r. none cs e q (same q .1 r), λ f. clear cs (λ q h. f q (same q .0 h)));
-}
+pub in-order : {cs : List Check} {Cs : List Condition} → Alike cs Cs → T (ascends 0 cs) → InNumberOrder (firstOf cs) Cs
+in-order alike a = record { exactly = exactly alike; lowest = λ q p. lowest alike 0 q p a }

@@ -28,8 +28,7 @@ use Rattle.single.proofs.OneIndex.{uniform-written}
 use Rattle.encode.specs.Encoder.{searches, sixOnly, betterBytes, compressedOf, encoded, compressed}
 use Rattle.encode.proofs.Middle.{block-middle-to-1}
 use Rattle.decode.proofs.Laws.{decoded-low}
-use Rattle.refusal.specs.Refusals.{lowest}
-use Rattle.bc4.specs.Calls.{samplesAfter}
+use Rattle.refusal.specs.Refusals.{firstOf}
 use Rattle.demands.specs.Demand3.{sixStart, fiveStart, fourStart, roundedEnds}
 use Rattle.demands.specs.RoundTrip.{ruleOf, endsIn, twice, flat, flatValue, isLevel, Start, six, five, four, found, level, around, refined, RoundTrip}
 use Rattle.demands.proofs.Demand3.{demand-3}
@@ -151,7 +150,7 @@ unfolding compressed
 compressed-answer s o = encoded-answer (entered s) o (entered-unit s)
 
 pub round-trip : RoundTrip
-unfolding samplesAfter lowest
+unfolding firstOf
 round-trip = record {
   chosen = λ s o. compressed-answer s o .chosen;
   read = λ s o before. rw (from-bytesOf (compressed s o), decoded-low (o .snorm) (compressed s o));

@@ -15,25 +15,24 @@ use Rattle.decode.specs.BlockError.{blockError}
 use Rattle.decode.proofs.Laws.{error-of-bytes}
 use Rattle.refusal.specs.declared.Checked.{Checked}
 use Rattle.refusal.specs.declared.Checked.the-variants.{Passed, Refused}
-use Rattle.refusal.specs.Refusals.{lowest, resendChecks}
-use Rattle.refusal.proofs.Lowest.{lowest-clear, same-of}
+use Rattle.refusal.specs.Refusals.{firstOf, answered, resendChecks}
+use Rattle.refusal.proofs.Firsts.{first-clear, same-of}
 use Rattle.bc4.specs.declared.Kept.{Kept}
-use Rattle.bc4.specs.declared.Resent.the-variants.{Block as Answered}
-use Rattle.bc4.specs.Calls.{betterOf, resentOn, resendAnswer}
+use Rattle.bc4.specs.declared.Resent.the-variants.{Block as Answered, Refused as NotResent}
+use Rattle.bc4.specs.Calls.{betterOf, resendAnswer}
 use Rattle.bc4.proofs.Resends.{stays-or-replaced}
 use Rattle.demands.specs.Demand1.{Iff}
 use Rattle.demands.specs.Demand3.{heldAfter, series, AllIn, StaysOrBetter}
 
 -- where a resend is not refused, what is held are eight bytes: read as a number and laid out again they are the same
 module _ (s : List Float) (held : List ℕ) (all : AllBytes held) (o : Options) where
-  held-back : lowest (resendChecks s held o) ≡ Passed → bytesOf (fromBytes held) ≡ held
-  held-back passed = bytes-from held (same-of _ _ (lowest-clear (resendChecks s held o) passed .1 .0)) all
+  held-back : firstOf (resendChecks s held o) ≡ Passed → bytesOf (fromBytes held) ≡ held
+  held-back passed = bytes-from held (same-of _ _ (first-clear (resendChecks s held o) passed .1 .0)) all
 
   one-resend : StaysOrBetter (o .snorm) s held (heldAfter held (resendAnswer s held o))
-  unfolding resentOn
-  one-resend = go (lowest (resendChecks s held o)) refl
+  one-resend = go (firstOf (resendChecks s held o)) refl
     where
-      go : (c : Checked) → lowest (resendChecks s held o) ≡ c → StaysOrBetter (o .snorm) s held (heldAfter held (resentOn c s held o))
+      go : (c : Checked) → firstOf (resendChecks s held o) ≡ c → StaysOrBetter (o .snorm) s held (heldAfter held (answered NotResent (Answered (betterOf s (fromBytes held) o)) c))
       go (Refused q) e = inl refl
       go Passed e =
           elim (stays-or-replaced s (fromBytes held) o) [
@@ -42,18 +41,16 @@ module _ (s : List Float) (held : List ℕ) (all : AllBytes held) (o : Options) 
           ]
 
   next-bytes : AllBytes (heldAfter held (resendAnswer s held o))
-  unfolding resentOn
-  next-bytes = go (lowest (resendChecks s held o))
+  next-bytes = go (firstOf (resendChecks s held o))
     where
-      go : (c : Checked) → AllBytes (heldAfter held (resentOn c s held o))
+      go : (c : Checked) → AllBytes (heldAfter held (answered NotResent (Answered (betterOf s (fromBytes held) o)) c))
       go (Refused q) = all
       go Passed = bytes-all (betterOf s (fromBytes held) o .block)
 
   pub flag-right : (h : Kept) → resendAnswer s held o ≡ Answered h → Iff (h .fresh ≡ true) (bytesOf (h .block) ≡ held → ⊥)
-  unfolding resentOn
-  flag-right h = go (lowest (resendChecks s held o)) refl
+  flag-right h = go (firstOf (resendChecks s held o)) refl
     where
-      go : (c : Checked) → lowest (resendChecks s held o) ≡ c → resentOn c s held o ≡ Answered h → Iff (h .fresh ≡ true) (bytesOf (h .block) ≡ held → ⊥)
+      go : (c : Checked) → firstOf (resendChecks s held o) ≡ c → answered NotResent (Answered (betterOf s (fromBytes held) o)) c ≡ Answered h → Iff (h .fresh ≡ true) (bytesOf (h .block) ≡ held → ⊥)
       go (Refused q) e r = let z : _≡_ {A = ℕ} 0 1 = cc in absurd (omega arith)
       go Passed e r =
           let same : betterOf s (fromBytes held) o ≡ h = cc in

@@ -23,9 +23,9 @@ pub record Demand2 : Type 0 where
   pub encoded : (samples : List Float) (o : Options) → length samples ≡ 16 → ((i : ℕ) → i < 16 → isNan (pixelAt samples i) ≡ false)
       → encodeAnswer samples o ≡ Block (compressed samples o)
   -- pixel i of eight bytes, in the array that decode was lent
-  pub near : (snorm : Bool) (encoded : List ℕ) (before : List Float) (i : ℕ) → i < 16
+  pub near : (encoded : List ℕ) (snorm : Bool) (before : List Float) (i : ℕ) → i < 16
       → let n = fromBytes encoded in
-      Close (pixelAt (samplesAfter Passed snorm encoded before) i) (exactNum snorm (byteAt n 0) (byteAt n 1) (blockIndex n i)) (exactDen snorm (byteAt n 0) (byteAt n 1))
+      Close (pixelAt (samplesAfter Passed encoded snorm before) i) (exactNum snorm (byteAt n 0) (byteAt n 1) (blockIndex n i)) (exactDen snorm (byteAt n 0) (byteAt n 1))
   -- of a tile that is not refused: the block call accepts each block, and its eight bytes stand at the block's place
   pub tiled : (samples : List Float) (width height : ℕ) (o : Options) (out : List ℕ) (n : ℕ) → tileAnswer samples width height (length out) ≡ Written n
       → (column row : ℕ) → column < along width → row < along height

@@ -26,7 +26,7 @@ use Rattle.search.specs.Covered.{Covered, endsOf}
 use Rattle.single.specs.Single.{bc4Epsilon}
 use Rattle.encode.specs.Encoder.{searches, sixOnly, middle, compressed}
 use Rattle.decode.specs.Meaning.{decoded}
-use Rattle.refusal.specs.Refusals.{lowest, decodeChecks}
+use Rattle.refusal.specs.Refusals.{firstOf, decodeChecks}
 use Rattle.bc4.specs.Calls.{samplesAfter}
 use Rattle.demands.specs.Demand3.{sixStart, fiveStart, fourStart, roundedEnds}
 
@@ -111,6 +111,6 @@ pub record RoundTrip : Type 0 where
   -- decode accepts the eight bytes of an answer, and what it leaves in the lent array is that block
   pub read : (s : List Float) (o : Options) (before : List Float)
       → let encoded = bytesOf (compressed s o) in
-      samplesAfter (lowest (decodeChecks encoded)) (o .snorm) encoded before ≡ decoded (compressed s o) (o .snorm)
+      samplesAfter (firstOf (decodeChecks encoded)) encoded (o .snorm) before ≡ decoded (compressed s o) (o .snorm)
   -- neither endpoint byte of a signed answer is -128
   pub never-128 : (s : List Float) (o : Options) → o .snorm ≡ true → (byteAt (compressed s o) 0 ≡ 128 → ⊥) × (byteAt (compressed s o) 1 ≡ 128 → ⊥)
