@@ -21,29 +21,26 @@ loop-holds : tie.Need-loop-holds Inv-loop μ-loop
 unfolding linesTo
 loop-holds c = (search needs, search needs, refl, record { within = search needs; start = refl; rest = refl })
 
-mul-answer-to : tie.Need-mul-answer-to Inv-loop μ-loop
-mul-answer-to c = search needs
+mul-line : tie.Need-mul-line Inv-loop μ-loop
+mul-line c = search needs
 
-mul-answer-to-2 : tie.Need-mul-answer-to-2 Inv-loop μ-loop
-mul-answer-to-2 c = search needs
+mul-line-2 : tie.Need-mul-line-2 Inv-loop μ-loop
+mul-line-2 c = search needs
 
-add-answer-to : tie.Need-add-answer-to Inv-loop μ-loop
-add-answer-to c = search needs
+add-line : tie.Need-add-line Inv-loop μ-loop
+add-line c = search needs
 
-sub-answer-to : tie.Need-sub-answer-to Inv-loop μ-loop
-sub-answer-to c = search needs
+sub-line : tie.Need-sub-line Inv-loop μ-loop
+sub-line c = search needs
 
-part-answer-to-start : tie.Need-part-answer-to-start Inv-loop μ-loop
-part-answer-to-start c = search needs
+part-line-start : tie.Need-part-line-start Inv-loop μ-loop
+part-line-start c = search needs
 
-part-answer-to-end : tie.Need-part-answer-to-end Inv-loop μ-loop
-part-answer-to-end c = search needs
-
-answer-to-requires : tie.Need-answer-to-requires Inv-loop μ-loop
-answer-to-requires c κs = simp (length-take, length-drop) (omega arith)
+part-line-end : tie.Need-part-line-end Inv-loop μ-loop
+part-line-end c = search needs
 
 line-requires : tie.Need-line-requires Inv-loop μ-loop
-line-requires c κs = search needs
+line-requires c κs = simp (length-take, length-drop) (omega arith)
 
 slice-aggregate-copy : tie.Need-slice-aggregate-copy Inv-loop μ-loop
 slice-aggregate-copy c = search needs
@@ -65,14 +62,14 @@ unfolding linesTo
 loop-again c =
     let copied = c .before .before .copy in
     let made = c .before .before .before .before .before .before in
-    let l = made .before .before .before .before .loop in
-    let args = made .before .before .before .before .before .before .before .args in
+    let l = made .before .before .before .loop in
+    let args = made .before .before .before .before .before .before .args in
     let line = made .line in
     let enough : line .result .length ≤ length (line .result .bytes) = omega arith in
     let room : l .at + line .result .length ≤ length (l .out) = omega arith in
     let whole : l .i * 68 + 68 - l .i * 68 ≡ 68 = omega arith in
     let same : take (line .result .length) (line .result .bytes) ≡ lineOf (answerOf (recordAt (args .input .now) (l .i)))
-    = rw (line .ensures .same, made .before .answer-to .ensures, whole) in (
+    = rw (line .ensures .same, whole) in (
       omega arith,
       omega arith,
       ap length (copied .ensures) ∙ length-paste (l .out) (l .at) (line .result .bytes) (line .result .length) room enough ∙ l .inv .2,
@@ -96,13 +93,12 @@ lines-spec =
     Inv-loop
     μ-loop
     loop-holds
-    mul-answer-to
-    mul-answer-to-2
-    add-answer-to
-    sub-answer-to
-    part-answer-to-start
-    part-answer-to-end
-    answer-to-requires
+    mul-line
+    mul-line-2
+    add-line
+    sub-line
+    part-line-start
+    part-line-end
     line-requires
     slice-aggregate-copy
     copy-requires
