@@ -1,5 +1,5 @@
 -- Demand 1.
-use mathlib.Core.Path.{_≡_, refl, sym, subst}
+use mathlib.Core.Path.{_≡_, refl}
 use mathlib.Core.List.{List}
 use Prim.Native.Nat.{ℕ}
 use lib.Dec.{T}
@@ -15,6 +15,7 @@ use Rattle.bc4.specs.declared.Scored.the-variants.{Error, Refused as NotScored}
 use Rattle.bc4.specs.declared.Resent.the-variants.{Block as Answered, Refused as NotResent}
 use Rattle.bc4.specs.declared.Tiled.the-variants.{Written, Refused as NotTiled}
 use Rattle.refusal.specs.Refusals.{Check, when, firstOf, answered, encodeChecks, errorChecks, resendChecks, tileChecks}
+use Rattle.refusal.proofs.Firsts.{refusal-of}
 use Rattle.bc4.specs.Word.{wordOf}
 use Rattle.bc4.specs.Calls.{ofEncoded, ofScored, ofResent, ofTiled}
 use Rattle.demands.specs.Demand1.{Condition, When, BadWord, Exactly, InNumberOrder, Demand1, EncodeRefuses, ResendRefuses, TileRefuses}
@@ -37,14 +38,9 @@ word-same flags limit quality last = when-same (word-iff flags limit quality las
 pub encode-exactly : (s : List Float) → Exactly (firstOf (encodeChecks s)) (EncodeRefuses s)
 encode-exactly s = exactly (encode-alike s)
 
--- an answer refuses as its checks do
-module _ {A : Type 0} (refusalIn : A → Checked) (refused : Refusal → A) (value : A) (p : refusalIn value ≡ Passed) (r : (q : Refusal) → refusalIn (refused q) ≡ Refused q) where
-  same-refusal : (c : Checked) → refusalIn (answered refused value c) ≡ c
-  same-refusal Passed = p
-  same-refusal (Refused q) = r q
-
-  answer-in-order : {cs : List Check} {Cs : List Condition} → Alike cs Cs → T (ascends 0 cs) → InNumberOrder (refusalIn (answered refused value (firstOf cs))) Cs
-  answer-in-order {cs} {Cs} alike a = subst (λ (c : Checked). InNumberOrder c Cs) (sym (same-refusal (firstOf cs))) (in-order alike a)
+module _ {A : Type 0} (of : A → Checked) (refused : Refusal → A) (value : A) (passed : of value ≡ Passed) (back : (q : Refusal) → of (refused q) ≡ Refused q) where
+  answer-in-order : {cs : List Check} {Cs : List Condition} → Alike cs Cs → T (ascends 0 cs) → InNumberOrder (of (answered refused value (firstOf cs))) Cs
+  answer-in-order {cs} alike a = rw (refusal-of of refused value passed back (firstOf cs)) (in-order alike a)
 
 pub demand-1 : Demand1
 demand-1 = record {

@@ -1,5 +1,5 @@
 -- Demand 2.
-use mathlib.Core.Path.{_≡_, refl, ap, _∙_, subst}
+use mathlib.Core.Path.{_≡_, refl, sym, ap, _∙_, subst}
 use mathlib.Core.Bool.{false}
 use mathlib.Core.List.{List, _++_}
 use Prim.Native.Nat.{ℕ, _<_}
@@ -18,13 +18,12 @@ use Rattle.place.proofs.Places.{rows-length, block-within}
 use Rattle.tile.proofs.Stretches.{tile-length}
 use Rattle.tile.proofs.Blocks.{in-first, tile-block}
 use Rattle.place.proofs.Samples.{blockOf-length, blockOf-real}
-use Rattle.refusal.specs.declared.Checked.{Checked}
-use Rattle.refusal.specs.declared.Checked.the-variants.{Passed, Refused}
+use Rattle.refusal.specs.declared.Checked.the-variants.{Passed}
 use Rattle.bc4.specs.declared.Encoded.the-variants.{Block}
 use Rattle.bc4.specs.declared.Tiled.the-variants.{Written, Refused as NotTiled}
-use Rattle.refusal.specs.Refusals.{firstOf, answered, encodeChecks, tileChecks}
+use Rattle.refusal.specs.Refusals.{firstOf, encodeChecks, tileChecks}
 use Rattle.bc4.specs.Calls.{ofTiled, encodeAnswer}
-use Rattle.refusal.proofs.Firsts.{Clear, first-clear, same-of}
+use Rattle.refusal.proofs.Firsts.{refusal-of, Clear, first-clear, same-of}
 use Rattle.demands.specs.Demand2.{Demand2}
 use Rattle.demands.proofs.Conditions.{nan-free}
 use Rattle.demands.proofs.Demand1.{encode-exactly}
@@ -56,15 +55,11 @@ module _ (s : List Float) (width height : ℕ) (o : Options) (out : List ℕ) (p
       in-first (tileBytes s width o (along height)) (drop (encodedLength width height) out) (blockAt width column row) (encodedLength width height) long
       (block-within width height (clear .0) column row h k) ∙ tile-block s width o (along height) column row h k
 
-tile-passed : (c : Checked) (m n : ℕ) → answered NotTiled (Written m) c ≡ Written n → c ≡ Passed
-tile-passed Passed m n e = refl
-tile-passed (Refused q) m n e = ap ofTiled e
-
 pub demand-2 : Demand2
 demand-2 = record {
   encoded = λ s o long real. block-answer s o (accepted s long real);
   near = λ encoded snorm before i h. decoded-close snorm (fromBytes encoded) i h;
   tiled = λ s width height o out n e column row h k.
-      let passed = tile-passed (firstOf (tileChecks s width height (length out))) _ n e in
+      let passed = sym (refusal-of ofTiled NotTiled (Written _) refl (λ q. refl) _) ∙ ap ofTiled e in
       (block-answer (blockOf s width column row) o (block-accepted s width height o out passed column row h k), block-stands s width height o out passed column row h k);
 }

@@ -19,9 +19,12 @@ pub fn answer_to(bytes: &[u8]) -> Encoded
     bc4::word::encode_block(&samples, input::read_word(bytes))
 }
 
-fn line(answer: Encoded) -> Line
-    ensures { λ r. ⌜ Holds r (lineOf answer) ⌝ }
+// The line of a record. A record is refused for few reasons, all of one digit.
+fn line(bytes: &[u8]) -> Line
+    requires { ⌜ length (now bytes) ≡ 68 ⌝ }
+    ensures { λ r. ⌜ Holds r (lineOf (answerOf (now (bytes .entry)))) ⌝ }
 {
+    let answer = answer_to(bytes);
     match answer {
         Encoded::Block(block) => output::hex(block),
         Encoded::Refused(q) => output::refused(bc4::number(q)),
@@ -35,7 +38,7 @@ fn lines(input: &[u8], out: &mut [u8]) -> usize
 {
     let mut at = 0;
     for i in 0..input.len() / 68 {
-        let l = line(answer_to(&input[i * 68..i * 68 + 68]));
+        let l = line(&input[i * 68..i * 68 + 68]);
         let n = l.length;
         let text = l.bytes;
         at += bytes::copy(&text[..n], &mut out[at..]);

@@ -57,7 +57,7 @@ pub fn hex(block: u64) -> Line
     }
 }
 
-// Refusals have one digit.
+// The number of a refusal that has one digit.
 pub fn refused(number: u8) -> Line
     requires { ⌜ number < 10 ⌝ }
     ensures { λ r. ⌜ Holds r (refusedLine number) ⌝ }

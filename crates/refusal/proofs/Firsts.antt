@@ -18,6 +18,12 @@ refuses (Refused q) = Unit {0}
 pub apart : {q : Refusal} → Refused q ≡ Passed → ⊥
 apart e = subst refuses e tt
 
+-- An answer refuses as its checks do, where `of` reads the refusal back.
+module _ {A : Type 0} (of : A → Checked) (refused : Refusal → A) (value : A) (passed : of value ≡ Passed) (back : (q : Refusal) → of (refused q) ≡ Refused q) where
+  pub refusal-of : (c : Checked) → of (answered refused value c) ≡ c
+  refusal-of Passed = passed
+  refusal-of (Refused q) = back q
+
 -- what a call knows of `checked` once it is told apart: no check applies
 abbrev pub Clear : List Check → Type 0
 Clear [] = Unit {0}

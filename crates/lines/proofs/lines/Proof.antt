@@ -20,29 +20,26 @@ loop-holds : tie.Need-loop-holds Inv-loop μ-loop
 unfolding linesTo
 loop-holds c = (search needs, search needs, refl, record { within = search needs; start = refl; rest = refl })
 
-mul-answer-to : tie.Need-mul-answer-to Inv-loop μ-loop
-mul-answer-to c = search needs
+mul-line : tie.Need-mul-line Inv-loop μ-loop
+mul-line c = search needs
 
-mul-answer-to-2 : tie.Need-mul-answer-to-2 Inv-loop μ-loop
-mul-answer-to-2 c = search needs
+mul-line-2 : tie.Need-mul-line-2 Inv-loop μ-loop
+mul-line-2 c = search needs
 
-add-answer-to : tie.Need-add-answer-to Inv-loop μ-loop
-add-answer-to c = search needs
+add-line : tie.Need-add-line Inv-loop μ-loop
+add-line c = search needs
 
-sub-answer-to : tie.Need-sub-answer-to Inv-loop μ-loop
-sub-answer-to c = search needs
+sub-line : tie.Need-sub-line Inv-loop μ-loop
+sub-line c = search needs
 
-part-answer-to-start : tie.Need-part-answer-to-start Inv-loop μ-loop
-part-answer-to-start c = search needs
+part-line-start : tie.Need-part-line-start Inv-loop μ-loop
+part-line-start c = search needs
 
-part-answer-to-end : tie.Need-part-answer-to-end Inv-loop μ-loop
-part-answer-to-end c = search needs
-
-answer-to-requires : tie.Need-answer-to-requires Inv-loop μ-loop
-answer-to-requires c κs = simp (length-take, length-drop) (omega arith)
+part-line-end : tie.Need-part-line-end Inv-loop μ-loop
+part-line-end c = search needs
 
 line-requires : tie.Need-line-requires Inv-loop μ-loop
-line-requires c κs = search needs
+line-requires c κs = simp (length-take, length-drop) (omega arith)
 
 array-share-prefix-text : tie.Need-array-share-prefix-text Inv-loop μ-loop
 array-share-prefix-text c = search needs
@@ -76,13 +73,13 @@ unfolding linesTo
 loop-again c =
     let copied-line = c .before .before .copy in
     let made = c .before .before .before .before .before .before in
-    let l = made .before .before .before .before .loop in
+    let l = made .before .before .before .loop in
     let line = made .line in
     let long = line-bytes (line .ensures) in
     let text = take (line .result .length) (line .result .bytes) in
     let whole : l .i * 68 + 68 - l .i * 68 ≡ 68 = omega arith in
-    let same : text ≡ lineOf (answerOf (recordAt (made .before .before .before .before .before .before .before .args .input .now) (l .i)))
-    = rw (line .ensures .same, made .before .answer-to .ensures, whole) in
+    let same : text ≡ lineOf (answerOf (recordAt (made .before .before .before .before .before .before .args .input .now) (l .i)))
+    = rw (line .ensures .same, whole) in
     let more = written-more text (l .inv .3) (omega arith) in
     rw (copied-line .ensures .1, copied (l .out) text (l .at) (omega arith), copied-line .ensures .0, add-one, ← same) (omega arith, omega arith, more .1 ∙ l .inv .2, more .0)
 
@@ -102,13 +99,12 @@ lines-spec =
     Inv-loop
     μ-loop
     loop-holds
-    mul-answer-to
-    mul-answer-to-2
-    add-answer-to
-    sub-answer-to
-    part-answer-to-start
-    part-answer-to-end
-    answer-to-requires
+    mul-line
+    mul-line-2
+    add-line
+    sub-line
+    part-line-start
+    part-line-end
     line-requires
     array-share-prefix-text
     slice-aggregate-copy
