@@ -3,20 +3,23 @@ use mathlib.Core.Path.{_≡_, refl}
 use mathlib.Core.Bool.{Bool, true, false, _&&_}
 use mathlib.Core.List.{List}
 use Prim.Native.Nat.{ℕ, zero, suc, _+_, _*_, _%_, _<_}
-use native.Mathlib.Nat.{add-zero}
 use native.Mathlib.Numerals.{add-one}
 use native.Mathlib.Omega.{arith}
 use lib.ListN.{getD}
 use lib.Dec.{T, ltb}
 use lib.Ieee.{Float, nan, ofBits, ofInt, div}
-use Rattle.floats.specs.Arithmetic.{_⊕_, _⊖_, _⊗_, _⊘_, squared, whole, f0}
+use Rattle.floats.specs.Arithmetic.{_⊕_, _⊖_, _⊗_, _⊘_, squared, whole}
 use Rattle.floats.proofs.Table.{all, at, same, same→eq}
-use Rattle.block.specs.Samples.{pixelAt, perPixel}
-use Rattle.index_list.specs.Indexes.{indexAt, setAt, filledTo}
+use Rattle.block.specs.Samples.{pixelAt}
+use Rattle.index_list.specs.Indexes.{indexAt, filledTo}
 use Rattle.index_list.proofs.Laws.{filled-unset}
+use Rattle.palette.specs.declared.Kind.{Kind}
 use Rattle.palette.specs.declared.Closest.{Closest}
+use Rattle.palette.specs.declared.Indexed.{Indexed}
+use Rattle.palette.specs.Rules.{closestOf}
+use Rattle.palette.proofs.Rules.{closest-lt}
 use Rattle.bcn_util.specs.Diffusion.{sixteenths, weights, given, diffused}
-use Rattle.bcn_util.specs.Dither.{ditherStep, ditherTo, blockDither}
+use Rattle.bcn_util.specs.Dither.{withPixel, ditherStep, ditherTo}
 
 and-true : (p : Bool) → (p && true) ≡ p
 and-true true = refl
@@ -28,8 +31,8 @@ and-false false = refl
 
 -- ---- one pixel above the last row, and one in it
 module _ (m : List Float) (i : ℕ) (error : Float) where
-  abbrev part : ℕ → Float
-  part k = error ⊗ getD weights k nan
+  abbrev part : ℕ → ℕ → Float
+  part row k = error ⊗ getD weights (4 * row + k) nan
 
   pub diffused-above : ltb i 12 ≡ true
       → diffused m i error
@@ -37,53 +40,42 @@ module _ (m : List Float) (i : ℕ) (error : Float) where
       (given true
       (given (ltb 0 (i % 4))
       (given (ltb (i % 4) 3) m
-      (i + 1) (part (4 * (i % 4))))
-      (i + 3) (part (4 * (i % 4) + 1)))
-      (i + 4) (part (4 * (i % 4) + 2)))
-      (i + 5) (part (4 * (i % 4) + 3))
+      (i + 1) (part (i % 4) 0))
+      (i + 3) (part (i % 4) 1))
+      (i + 4) (part (i % 4) 2))
+      (i + 5) (part (i % 4) 3)
   unfolding diffused
-  diffused-above h = rw (h, and-true (ltb (i % 4) 3), and-true (ltb 0 (i % 4)), add-zero (4 * (i % 4))) refl
+  diffused-above h = rw (h, and-true (ltb (i % 4) 3), and-true (ltb 0 (i % 4))) refl
 
-  pub diffused-last : ltb i 12 ≡ false → diffused m i error ≡ given (ltb (i % 4) 3) m (i + 1) (part 16)
+  pub diffused-last : ltb i 12 ≡ false → diffused m i error ≡ given (ltb (i % 4) 3) m (i + 1) (part 4 0)
   unfolding diffused given
   diffused-last h = rw (h, and-false (ltb (i % 4) 3), and-false (ltb 0 (i % 4))) refl
 
-module _ (rule : Float → Closest) (b : List Float) where
-  -- what the loop holds after i pixels
-  pub record Reached (i : ℕ) (map : List Float) (d : ℕ) (total : Float) : Type 0 where
-    pub map-is : map ≡ ditherTo rule b i .map
-    pub indexes-is : d ≡ ditherTo rule b i .indexes
-    pub total-is : total ≡ ditherTo rule b i .total
+-- ---- the indexes are set in order, so the next one is unset
+abbrev pub answered : (Float → Closest) → List Float → ℕ → ℕ
+answered rule b k = rule (pixelAt b k ⊕ pixelAt (ditherTo rule b k .map) k) .index
 
-  -- the indexes are set in order, so the next one is unset
-  abbrev pub answered : ℕ → ℕ
-  answered k = rule (pixelAt b k ⊕ pixelAt (ditherTo rule b k .map) k) .index
+pub indexes-filled : (rule : Float → Closest) (b : List Float) (n : ℕ) → ditherTo rule b n .done .indexes .«data» ≡ filledTo (answered rule b) n
+unfolding ditherTo ditherStep filledTo
+indexes-filled rule b zero = refl
+indexes-filled rule b (suc n) = rw (indexes-filled rule b n)
 
-  pub indexes-filled : (n : ℕ) → ditherTo rule b n .indexes ≡ filledTo answered n
-  unfolding ditherTo ditherStep filledTo
-  indexes-filled zero = refl
-  indexes-filled (suc n) = rw (indexes-filled n)
+-- ---- what the loop holds after i pixels
+pub record Reached (kind : Kind) (c0 c1 : Float) (b : List Float) (i : ℕ) (map : List Float) (done : Indexed) : Type 0 where
+  pub map-is : map ≡ ditherTo (closestOf kind c0 c1) b i .map
+  pub done-is : done ≡ ditherTo (closestOf kind c0 c1) b i .done
 
-pub reached-start : {rule : Float → Closest} {b : List Float} {d : ℕ} → d ≡ 0 → Reached rule b 0 (perPixel (λ i. f0)) d f0
-unfolding ditherTo
-reached-start e = record { map-is = refl; indexes-is = e; total-is = refl }
+module _ {kind : Kind} {c0 c1 : Float} {b : List Float} {i : ℕ} {map : List Float} {done : Indexed} (r : Reached kind c0 c1 b i map done) where
+  pub reached-unset : indexAt (done .indexes .«data») i ≡ 0
+  reached-unset =
+      rw (r .done-is, indexes-filled (closestOf kind c0 c1) b i)
+      (filled-unset (answered (closestOf kind c0 c1) b) i (λ k h. closest-lt kind c0 c1 _) i (omega arith))
 
-module _ {rule : Float → Closest} {b : List Float} {i : ℕ} {map : List Float} {d : ℕ} {total : Float} (r : Reached rule b i map d total) where
-  pub reached-unset : ((x : Float) → rule x .index < 8) → indexAt d i ≡ 0
-  reached-unset small = rw (r .indexes-is, indexes-filled rule b i) (filled-unset (answered rule b) i (λ k h. small _) i (omega arith))
-
-  pub reached-step : {c : Closest} → c ≡ rule (pixelAt b i ⊕ pixelAt map i)
-      → Reached rule b (i + 1) (diffused map i (pixelAt b i ⊕ pixelAt map i ⊖ c .value)) (setAt d i (c .index)) (total ⊕ squared (c .error))
+  -- `error` is the answer's but for its sign
+  pub reached-step : (c : Closest) (error : Float) → c ≡ closestOf kind c0 c1 (pixelAt b i ⊕ pixelAt map i) → squared (c .error) ≡ squared error
+      → Reached kind c0 c1 b (i + 1) (diffused map i (pixelAt b i ⊕ pixelAt map i ⊖ c .value)) (withPixel done i (c .index) error)
   unfolding ditherTo ditherStep
-  reached-step e = rw (add-one, e, r .map-is, r .indexes-is, r .total-is) (record { map-is = refl; indexes-is = refl; total-is = refl })
-
-  -- for a rule whose error is, but for its sign, how far its value is off
-  pub reached-step-off : ((x : Float) → squared (rule x .error) ≡ squared (x ⊖ rule x .value)) → {c : Closest} → c ≡ rule (pixelAt b i ⊕ pixelAt map i)
-      → Reached rule b (i + 1) (diffused map i (pixelAt b i ⊕ pixelAt map i ⊖ c .value)) (setAt d i (c .index)) (total ⊕ squared (pixelAt b i ⊕ pixelAt map i ⊖ c .value))
-  reached-step-off same e = rw (e, ← same (pixelAt b i ⊕ pixelAt map i)) (reached-step refl)
-
-  pub reached-end : i ≡ 16 → record { indexes = record { «data» = d }; error = total } ≡ blockDither rule b
-  reached-end e = rw (r .indexes-is, r .total-is, e) refl
+  reached-step c error e same = rw (add-one, ← same, e, r .map-is, r .done-is) (record { map-is = refl; done-is = refl })
 
 -- ---- the table
 right : ℕ → Bool

@@ -10,22 +10,24 @@ use Rattle.palette.specs.declared.Closest.{Closest}
 use Rattle.palette.specs.declared.Indexed.{Indexed}
 use Rattle.bcn_util.specs.Diffusion.{diffused}
 
--- after some pixels: the error map, the indexes, the sum of squared errors
+-- after some pixels: the error map, and the indexes with the sum of squared errors
 pub record Dithered : Type 0 where
   pub map : List Float
-  pub indexes : ℕ
-  pub total : Float
+  pub done : Indexed
 
--- one pixel more
+-- one pixel more: its index, and its error squared
+abbrev pub withPixel : Indexed → ℕ → ℕ → Float → Indexed
+withPixel done i index error = record { indexes = record { «data» = setAt (done .indexes .«data») i index }; error = done .error ⊕ squared error }
+
 unfoldable pub ditherStep : (Float → Closest) → List Float → Dithered → ℕ → Dithered
 ditherStep rule b s i =
     let pixel = pixelAt b i ⊕ pixelAt (s .map) i in
     let c = rule pixel in
-    record { map = diffused (s .map) i (pixel ⊖ c .value); indexes = setAt (s .indexes) i (c .index); total = s .total ⊕ squared (c .error) }
+    record { map = diffused (s .map) i (pixel ⊖ c .value); done = withPixel (s .done) i (c .index) (c .error) }
 
 unfoldable pub ditherTo : (Float → Closest) → List Float → ℕ → Dithered
-ditherTo rule b zero = record { map = perPixel (λ i. f0); indexes = 0; total = f0 }
+ditherTo rule b zero = record { map = perPixel (λ i. f0); done = record { indexes = record { «data» = 0 }; error = f0 } }
 ditherTo rule b (suc n) = ditherStep rule b (ditherTo rule b n) n
 
 abbrev pub blockDither : (Float → Closest) → List Float → Indexed
-blockDither rule b = record { indexes = record { «data» = ditherTo rule b 16 .indexes }; error = ditherTo rule b 16 .total }
+blockDither rule b = ditherTo rule b 16 .done

@@ -1,10 +1,9 @@
-// What both compressions end with: endpoints, palette, indexes, bytes.
+// What both compressions end with: palette, indexes, bytes.
 ghost use mathlib.Core.Path.{_≡_};
-ghost use Rattle.palette.specs.Closest.{closest6, closest4};
-ghost use Rattle.coding.specs.Coding.{indexedBy, laidOut, ended6 as ended6Of, coded6 as coded6Of, ended4 as ended4Of, coded4 as coded4Of};
+ghost use Rattle.coding.specs.Coding.{indexed as indexedOf, ended as endedOf};
 use end_points::EndPoints;
-use floats::Pair;
 use palette::Indexed;
+use palette::Kind;
 use palette::inter4::Inter4Palette;
 use palette::inter6::Inter6Palette;
 
@@ -14,54 +13,25 @@ pub struct Coded {
     pub error: f32,
 }
 
-fn laid_out(e: EndPoints, x: Indexed) -> Coded
-    ensures { λ r. ⌜ r ≡ laidOut e x ⌝ }
+fn indexed(kind: Kind, b: &[f32; 16], dither: bool, e: EndPoints) -> Indexed
+    ensures { λ r. ⌜ r ≡ indexedOf kind (now (b .entry)) dither e ⌝ }
 {
+    if dither {
+        return bcn_util::dither::dither(kind, b, e.c0_f, e.c1_f);
+    }
+    match kind {
+        Kind::Six => Inter6Palette::from_endpoints(e).block_closest(b),
+        Kind::Four => Inter4Palette::from_endpoints(e).block_closest(b),
+    }
+}
+
+pub fn ended(kind: Kind, b: &[f32; 16], dither: bool, e: EndPoints) -> Coded
+    ensures { λ r. ⌜ r ≡ endedOf kind (now (b .entry)) dither e ⌝ }
+{
+    let x = indexed(kind, b, dither, e);
     let list = x.indexes;
     Coded {
         bytes: e.with_indexes(list),
         error: x.error,
     }
-}
-
-fn indexed6(p: Inter6Palette, b: &[f32; 16], dither: bool) -> Indexed
-    ensures { λ r. ⌜ r ≡ indexedBy (closest6 p) (now (b .entry)) dither ⌝ }
-{
-    if dither {
-        return bcn_util::dither::dither6(p, b);
-    }
-    p.block_closest(b)
-}
-
-fn indexed4(p: Inter4Palette, b: &[f32; 16], dither: bool) -> Indexed
-    ensures { λ r. ⌜ r ≡ indexedBy (closest4 (p .colors)) (now (b .entry)) dither ⌝ }
-{
-    if dither {
-        return bcn_util::dither::dither4(p, b);
-    }
-    p.block_closest(b)
-}
-
-pub fn ended6(b: &[f32; 16], dither: bool, e: EndPoints) -> Coded
-    ensures { λ r. ⌜ r ≡ ended6Of (now (b .entry)) dither e ⌝ }
-{
-    laid_out(e, indexed6(Inter6Palette::from_endpoints(e), b, dither))
-}
-
-pub fn coded6(b: &[f32; 16], snorm: bool, dither: bool, ends: Pair) -> Coded
-    ensures { λ r. ⌜ r ≡ coded6Of (now (b .entry)) snorm dither ends ⌝ }
-{
-    ended6(b, dither, EndPoints::new_inter6(ends.0, ends.1, snorm))
-}
-
-pub fn ended4(b: &[f32; 16], dither: bool, e: EndPoints) -> Coded
-    ensures { λ r. ⌜ r ≡ ended4Of (now (b .entry)) dither e ⌝ }
-{
-    laid_out(e, indexed4(Inter4Palette::from_endpoints(e), b, dither))
-}
-
-pub fn coded4(b: &[f32; 16], snorm: bool, dither: bool, ends: Pair) -> Coded
-    ensures { λ r. ⌜ r ≡ coded4Of (now (b .entry)) snorm dither ends ⌝ }
-{
-    ended4(b, dither, EndPoints::new_inter4(ends.0, ends.1, snorm))
 }

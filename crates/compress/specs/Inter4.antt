@@ -13,7 +13,7 @@ use Rattle.refine.specs.declared.rounds.Held.{Held}
 use Rattle.refine.specs.Rounds.{held}
 use Rattle.refine.specs.Refining.{refinedEnds}
 use Rattle.coding.specs.declared.Coded.{Coded}
-use Rattle.coding.specs.Coding.{coded4}
+use Rattle.coding.specs.Coding.{coded}
 use Rattle.compress.specs.Sorted.{placed, placeOf}
 
 -- both ends are further than an eighth from 0 and 1, so that no sample gains by being left to these two values
@@ -46,4 +46,4 @@ abbrev pub firstEnds : List Float → Bool → Pair → Pair
 firstEnds b reassign p = cond reassign (reassigned b p) p
 
 unfoldable pub compressInter4 : List Float → Options → Coded
-compressInter4 b o = coded4 b (o .snorm) (o .dither) (refinedEnds Four b (firstEnds b (o .«iter_initial_inter4») (minMaxWithThreshold bc4MinValue b)) o)
+compressInter4 b o = coded Four b (o .snorm) (o .dither) (refinedEnds Four b (firstEnds b (o .«iter_initial_inter4») (minMaxWithThreshold bc4MinValue b)) o)

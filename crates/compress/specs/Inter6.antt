@@ -11,10 +11,10 @@ use Rattle.options.specs.declared.Options.{Options}
 use Rattle.refine.specs.Refining.{refinedEnds}
 use Rattle.fit.specs.Fit.{fitted}
 use Rattle.coding.specs.declared.Coded.{Coded}
-use Rattle.coding.specs.Coding.{coded6}
+use Rattle.coding.specs.Coding.{coded}
 
 unfoldable pub compressedFrom : List Float → Pair → Options → Coded
-compressedFrom b p o = coded6 b (o .snorm) (o .dither) (refinedEnds Six b (fitted b (fitted b p)) o)
+compressedFrom b p o = coded Six b (o .snorm) (o .dither) (refinedEnds Six b (fitted b (fitted b p)) o)
 
 -- The smallest and largest, 0.95 of the way from the mean, to lessen the weight of outliers.
 abbrev pub nudged : Float → Float → Float

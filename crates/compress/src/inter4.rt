@@ -3,6 +3,7 @@ ghost use mathlib.Core.Path.{_≡_};
 ghost use Prim.Native.Nat.{_<_};
 ghost use Rattle.compress.specs.Inter4.{far as farOf, upward as upwardOf, candidate as candidateOf, walked as walkedOf, reassigned, firstEnds, compressInter4};
 use coding::Coded;
+use end_points::EndPoints;
 use floats::Pair;
 use options::Options;
 use palette::Kind;
@@ -95,5 +96,10 @@ pub fn compress_inter4(b: &[f32; 16], o: Options) -> Coded
     let p = block::min_max_with_threshold(b, BC4_MIN_VALUE);
     let first = first_ends(b, o.iter_initial_inter4, p);
     let ends = refine::refine_endpoints(Kind::Four, b, first.0, first.1, o);
-    coding::coded4(b, o.snorm, o.dither, ends)
+    coding::ended(
+        Kind::Four,
+        b,
+        o.dither,
+        EndPoints::new_inter4(ends.0, ends.1, o.snorm),
+    )
 }

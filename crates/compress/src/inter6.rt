@@ -2,6 +2,7 @@
 ghost use mathlib.Core.Path.{_≡_};
 ghost use Rattle.compress.specs.Inter6.{compressedFrom, nudged as nudgedOf, nudgedPair, five as fiveOf, smaller as smallerOf, compressInter6};
 use coding::Coded;
+use end_points::EndPoints;
 use floats::Pair;
 use options::Options;
 use palette::Kind;
@@ -12,7 +13,12 @@ fn compressed_from(b: &[f32; 16], p: Pair, o: Options) -> Coded
 {
     let fitted = fit::fitted_twice(b, p);
     let ends = refine::refine_endpoints(Kind::Six, b, fitted.0, fitted.1, o);
-    coding::coded6(b, o.snorm, o.dither, ends)
+    coding::ended(
+        Kind::Six,
+        b,
+        o.dither,
+        EndPoints::new_inter6(ends.0, ends.1, o.snorm),
+    )
 }
 
 fn nudged(mean: f32, x: f32) -> f32

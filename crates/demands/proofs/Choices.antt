@@ -19,14 +19,14 @@ use Rattle.end_points.proofs.Modes.{inter6-order, inter4-order}
 use Rattle.end_points.proofs.Made.{Made, inter6-made, inter4-made, bytes-made}
 use Rattle.palette.specs.declared.Kind.{Kind}
 use Rattle.palette.specs.declared.Kind.the-variants.{Six, Four}
-use Rattle.palette.proofs.ClosestLaws.{closest6-lt, closest4-lt}
+use Rattle.palette.proofs.Rules.{closest-lt}
 use Rattle.bcn_util.proofs.DitherLaws.{indexes-filled}
 use Rattle.options.specs.declared.Options.{Options}
-use Rattle.coding.specs.Coding.{indexedBy, laidOut}
+use Rattle.coding.specs.Coding.{ruleOf, ended, endsIn}
 use Rattle.search.specs.Covered.{endsOf}
 use Rattle.decode.specs.Meaning.{valueAt, decoded}
 use Rattle.decode.proofs.Chosen.{six-chosen, four-chosen, first-value, packed-decoded}
-use Rattle.demands.specs.RoundTrip.{ruleOf, meant, asked, Choice, byPalette, byLevel, endsIn, CanChoose, Chosen}
+use Rattle.demands.specs.RoundTrip.{meant, asked, Choice, byPalette, byLevel, CanChoose, Chosen}
 
 -- ---- endpoints as a palette wants them: in its mode's order
 abbrev pub InMode : Bool → Kind → EndPoints → Type 0
@@ -47,10 +47,6 @@ pair-ready Six min max h l = record { made = bytes-made max min (omega arith) (o
 pair-ready Four min max h l = record { made = bytes-made min max (omega arith) (omega arith); mode = lt-ltb min max h }
 
 -- ---- one answer of a palette
-rule-lt : (kind : Kind) (e : EndPoints) (x : Float) → ruleOf kind e x .index < 8
-rule-lt Six e x = closest6-lt _ x
-rule-lt Four e x = closest4-lt _ x
-
 rule-meant : (snorm : Bool) (kind : Kind) (e : EndPoints) → Ready snorm kind e → (x : Float)
     → valueAt snorm (e .c0) (e .c1) (ruleOf kind e x .index) ≡ meant kind e (ruleOf kind e x)
 rule-meant snorm Six e r x =
@@ -65,8 +61,8 @@ rule-meant snorm Four e r x =
 abbrev pub bytesBy : Choice → ℕ
 bytesBy c = packed (c .ends .c0) (c .ends .c1) (filledTo (c .index) 16)
 
-palette-bytes : (kind : Kind) (e : EndPoints) (b : List Float) (dither : Bool) → laidOut e (indexedBy (ruleOf kind e) b dither) .bytes ≡ bytesBy (byPalette kind e b dither)
-unfolding byPalette
+palette-bytes : (kind : Kind) (e : EndPoints) (b : List Float) (dither : Bool) → ended kind b dither e .bytes ≡ bytesBy (byPalette kind e b dither)
+unfolding byPalette ended
 palette-bytes kind e b true = ap (packed (e .c0) (e .c1)) (indexes-filled (ruleOf kind e) b 16)
 palette-bytes kind e b false = refl
 
@@ -78,7 +74,7 @@ palette-reads : (snorm : Bool) (kind : Kind) (e : EndPoints) (b : List Float) (d
 unfolding byPalette
 palette-reads snorm kind e b dither r i h =
     let at : ℕ → Float = asked (ruleOf kind e) b dither in
-    packed-decoded snorm (e .c0) (e .c1) (r .made .c0-lt) (r .made .c1-lt) (λ k. ruleOf kind e (at k) .index) (λ k l. rule-lt kind e (at k)) i h
+    packed-decoded snorm (e .c0) (e .c1) (r .made .c0-lt) (r .made .c1-lt) (λ k. ruleOf kind e (at k) .index) (λ k l. closest-lt kind _ _ (at k)) i h
     ∙ rule-meant snorm kind e r (at i)
 
 level-reads : (snorm : Bool) (e : EndPoints) → Made snorm e → Reads snorm (byLevel e)
@@ -105,7 +101,7 @@ answer b o n c can m e reads =
 
 module _ (b : List Float) (o : Options) (n : ℕ) where
   pub by-palette : (kind : Kind) (e : EndPoints) (block : List Float) → CanChoose b o (byPalette kind e block (o .dither)) → Ready (o .snorm) kind e
-      → n ≡ laidOut e (indexedBy (ruleOf kind e) block (o .dither)) .bytes → Answer b o n
+      → n ≡ ended kind block (o .dither) e .bytes → Answer b o n
   unfolding byPalette
   by-palette kind e block can r h =
       answer b o n (byPalette kind e block (o .dither)) can (r .made) (h ∙ palette-bytes kind e block (o .dither)) (palette-reads (o .snorm) kind e block (o .dither) r)

@@ -17,7 +17,7 @@ use Rattle.palette.specs.declared.Kind.{Kind}
 use Rattle.palette.specs.declared.Kind.the-variants.{Six, Four}
 use Rattle.options.specs.declared.Options.{Options}
 use Rattle.coding.specs.declared.Coded.{Coded}
-use Rattle.coding.specs.Coding.{indexedBy, laidOut, ended6, ended4, coded6, coded4}
+use Rattle.coding.specs.Coding.{ruleOf, ended, endsIn, coded}
 use Rattle.compress.specs.Inter6.{smaller, compressInter6}
 use Rattle.compress.specs.Inter4.{compressInter4}
 use Rattle.search.specs.Search.{searched}
@@ -30,7 +30,7 @@ use Rattle.encode.proofs.Middle.{block-middle-to-1}
 use Rattle.decode.proofs.Laws.{decoded-low}
 use Rattle.refusal.specs.Refusals.{firstOf}
 use Rattle.demands.specs.Demand3.{sixStart, fiveStart, fourStart, roundedEnds}
-use Rattle.demands.specs.RoundTrip.{ruleOf, endsIn, twice, flat, flatValue, isLevel, Start, six, five, four, found, level, around, refined, RoundTrip}
+use Rattle.demands.specs.RoundTrip.{twice, flat, flatValue, isLevel, Start, six, five, four, found, level, around, refined, RoundTrip}
 use Rattle.demands.proofs.Demand3.{demand-3}
 use Rattle.demands.proofs.Choices.{ends-ready, pair-ready, Answer, by-palette, by-level}
 
@@ -41,18 +41,13 @@ plain true true r e = clash e refl
 plain true false true e = clash e refl
 plain true false false e = (refl, refl)
 
-pair-bytes : (kind : Kind) (b : List Float) (min max : ℕ) → pairBytes kind b min max ≡ laidOut (endsOf kind min max) (indexedBy (ruleOf kind (endsOf kind min max)) b false) .bytes
-unfolding ended6 ended4
-pair-bytes Six b min max = refl
-pair-bytes Four b min max = refl
-
 search-answer : (b : List Float) (o : Options) (n : ℕ) → searches o ≡ true → OfPair b n → Answer b o n
 search-answer b o n s w =
     let e = plain (o .«brute_force») (o .dither) (o .snorm) s in
     let c = w .covered in
     by-palette b o n (w .kind) (endsOf (w .kind) (w .min) (w .max)) b (found s (w .kind) (w .min) (w .max) c)
     (rw (e .1) (pair-ready (w .kind) (w .min) (w .max) (c .apart) (c .max-to)))
-    (w .bytes ∙ rw (e .0) (pair-bytes (w .kind) b (w .min) (w .max)))
+    (rw (e .0) (w .bytes))
 
 -- ---- a flat block
 module _ (b : List Float) (o : Options) (s : searches o ≡ false) (f : flat b ≡ true) where
@@ -63,10 +58,10 @@ module _ (b : List Float) (o : Options) (s : searches o ≡ false) (f : flat b �
   ends kind = endsIn kind (o .snorm) (twice v)
 
   abbrev dithered : ℕ
-  dithered = coded6 (perPixel (λ i. v)) (o .snorm) true (twice v) .bytes
+  dithered = coded Six (perPixel (λ i. v)) (o .snorm) true (twice v) .bytes
 
   module _ (l : isLevel (o .snorm) v ≡ false) where
-    around-answer : (n : ℕ) (kind : Kind) → (o .dither ≡ true → kind ≡ Six) → n ≡ laidOut (ends kind) (indexedBy (ruleOf kind (ends kind)) (perPixel (λ i. v)) (o .dither)) .bytes → Answer b o n
+    around-answer : (n : ℕ) (kind : Kind) → (o .dither ≡ true → kind ≡ Six) → n ≡ ended kind (perPixel (λ i. v)) (o .dither) (ends kind) .bytes → Answer b o n
     around-answer n kind d = by-palette b o n kind (ends kind) (perPixel (λ i. v)) (around s f l kind d) (ends-ready kind (o .snorm) (twice v))
 
     nearer-answer : o .dither ≡ false → Answer b o (nearerPalette v (o .snorm))
@@ -74,11 +69,10 @@ module _ (b : List Float) (o : Options) (s : searches o ≡ false) (f : flat b �
     nearer-answer d = go (lt (ruleOf Four (ends Four) v .error) (ruleOf Six (ends Six) v .error))
       where
         go : (t : Bool) → Answer b o (cond t (uniform (ends Four) (ruleOf Four (ends Four) v .index)) (uniform (ends Six) (ruleOf Six (ends Six) v .index)))
-        go true = around-answer _ Four (λ t. clash t d) (rw d (uniform-written (ruleOf Four (ends Four)) (ends Four) v))
-        go false = around-answer _ Six (λ t. refl) (rw d (uniform-written (ruleOf Six (ends Six)) (ends Six) v))
+        go true = around-answer _ Four (λ t. clash t d) (rw d (uniform-written Four (ends Four) v))
+        go false = around-answer _ Six (λ t. refl) (rw d (uniform-written Six (ends Six) v))
 
     palette-answer : (t : Bool) → o .dither ≡ t → Answer b o (cond t dithered (nearerPalette v (o .snorm)))
-    unfolding coded6 ended6
     palette-answer true d = around-answer _ Six (λ t. refl) (rw d refl)
     palette-answer false d = nearer-answer d
 
@@ -92,31 +86,23 @@ module _ (b : List Float) (o : Options) (s : searches o ≡ false) (f : flat b �
 
 -- ---- any other block
 module _ (b : List Float) (o : Options) (s : searches o ≡ false) (f : flat b ≡ false) where
-  abbrev coded : Kind → Pair → Coded
-  coded Six start = coded6 b (o .snorm) (o .dither) (roundedEnds Six b o start)
-  coded Four start = coded4 b (o .snorm) (o .dither) (roundedEnds Four b o start)
+  abbrev runs : Kind → Pair → Coded
+  runs kind start = coded kind b (o .snorm) (o .dither) (roundedEnds kind b o start)
 
-  coded-bytes : (kind : Kind) (start : Pair)
-      → let e = endsIn kind (o .snorm) (roundedEnds kind b o start) in
-      coded kind start .bytes ≡ laidOut e (indexedBy (ruleOf kind e) b (o .dither)) .bytes
-  unfolding coded6 ended6 coded4 ended4
-  coded-bytes Six start = refl
-  coded-bytes Four start = refl
-
-  coded-answer : (kind : Kind) (start : Pair) → Start b o kind start → Answer b o (coded kind start .bytes)
+  coded-answer : (kind : Kind) (start : Pair) → Start b o kind start → Answer b o (runs kind start .bytes)
   coded-answer kind start h =
       let p = roundedEnds kind b o start in
-      by-palette b o _ kind (endsIn kind (o .snorm) p) b (refined s f kind start h) (ends-ready kind (o .snorm) p) (coded-bytes kind start)
+      by-palette b o _ kind (endsIn kind (o .snorm) p) b (refined s f kind start h) (ends-ready kind (o .snorm) p) refl
 
-  smaller-answer : o .«size_variations» ≡ true → (t : Bool) → Answer b o (cond t (coded Six (fiveStart b)) (coded Six (sixStart b)) .bytes)
+  smaller-answer : o .«size_variations» ≡ true → (t : Bool) → Answer b o (cond t (runs Six (fiveStart b)) (runs Six (sixStart b)) .bytes)
   smaller-answer e true = coded-answer Six (fiveStart b) (five e)
   smaller-answer e false = coded-answer Six (sixStart b) six
 
   six-answer : Answer b o (compressInter6 b (minMax b) o .bytes)
   six-answer = rw (demand-3 .six-runs b o) (go (o .«size_variations») refl)
     where
-      go : (t : Bool) → o .«size_variations» ≡ t → Answer b o (cond t (smaller (coded Six (sixStart b)) (coded Six (fiveStart b))) (coded Six (sixStart b)) .bytes)
-      go true e = smaller-answer e (lt (coded Six (fiveStart b) .error) (coded Six (sixStart b) .error))
+      go : (t : Bool) → o .«size_variations» ≡ t → Answer b o (cond t (smaller (runs Six (sixStart b)) (runs Six (fiveStart b))) (runs Six (sixStart b)) .bytes)
+      go true e = smaller-answer e (lt (runs Six (fiveStart b) .error) (runs Six (sixStart b) .error))
       go false e = coded-answer Six (sixStart b) six
 
   four-answer : sixOnly o (minMax b) ≡ false → Answer b o (compressInter4 b o .bytes)

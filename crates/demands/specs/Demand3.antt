@@ -17,7 +17,7 @@ use Rattle.options.specs.declared.Options.{Options}
 use Rattle.options.specs.declared.Quantization.the-variants.{MediumQuality, HighQuality}
 use Rattle.refine.specs.Rounds.{refined}
 use Rattle.refine.specs.Refining.{firstStep, leastStep, quantizedPair, quantizing}
-use Rattle.coding.specs.Coding.{coded6, coded4}
+use Rattle.coding.specs.Coding.{coded}
 use Rattle.fit.specs.Fit.{fitted}
 use Rattle.compress.specs.Inter6.{nudgedPair, five, smaller, compressInter6}
 use Rattle.compress.specs.Inter4.{firstEnds, compressInter4}
@@ -84,9 +84,9 @@ roundedEnds kind b o start = quantizing (o .quantization) kind b (o .snorm) (end
 pub record Demand3 : Type 0 where
   -- the encoder's refinements are these three
   pub six-runs : (b : List Float) (o : Options)
-      → let best = coded6 b (o .snorm) (o .dither) (roundedEnds Six b o (sixStart b)) in
-      compressInter6 b (minMax b) o ≡ cond (o .«size_variations») (smaller best (coded6 b (o .snorm) (o .dither) (roundedEnds Six b o (fiveStart b)))) best
-  pub four-runs : (b : List Float) (o : Options) → compressInter4 b o ≡ coded4 b (o .snorm) (o .dither) (roundedEnds Four b o (fourStart b o))
+      → let best = coded Six b (o .snorm) (o .dither) (roundedEnds Six b o (sixStart b)) in
+      compressInter6 b (minMax b) o ≡ cond (o .«size_variations») (smaller best (coded Six b (o .snorm) (o .dither) (roundedEnds Six b o (fiveStart b)))) best
+  pub four-runs : (b : List Float) (o : Options) → compressInter4 b o ≡ coded Four b (o .snorm) (o .dither) (roundedEnds Four b o (fourStart b o))
   -- and each, under a larger limit, ends on the same pair or on a better one
   pub six-limits : (s : List Float) (o : Options) → Limits Six (entered s) o (sixStart (entered s))
   pub five-limits : (s : List Float) (o : Options) → Limits Six (entered s) o (fiveStart (entered s))

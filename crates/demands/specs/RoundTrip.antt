@@ -14,14 +14,13 @@ use Rattle.index_list.specs.Layout.{byteAt, packed, bytesOf}
 use Rattle.block.specs.Samples.{pixelAt, perPixel}
 use Rattle.block.specs.Block.{entered, minMax}
 use Rattle.end_points.specs.declared.EndPoints.{EndPoints}
-use Rattle.end_points.specs.EndPoints.{closest, inter6, inter4, Sound}
+use Rattle.end_points.specs.EndPoints.{closest, Sound}
 use Rattle.palette.specs.declared.Kind.{Kind}
 use Rattle.palette.specs.declared.Kind.the-variants.{Six, Four}
 use Rattle.palette.specs.declared.Closest.{Closest}
-use Rattle.palette.specs.Palettes.{inter6Palette, colors}
-use Rattle.palette.specs.Closest.{closest6, closest4}
 use Rattle.bcn_util.specs.Dither.{ditherTo}
 use Rattle.options.specs.declared.Options.{Options}
+use Rattle.coding.specs.Coding.{ruleOf, endsIn}
 use Rattle.search.specs.Covered.{Covered, endsOf}
 use Rattle.single.specs.Single.{bc4Epsilon}
 use Rattle.encode.specs.Encoder.{searches, sixOnly, middle, compressed}
@@ -30,12 +29,7 @@ use Rattle.refusal.specs.Refusals.{firstOf, decodeChecks}
 use Rattle.bc4.specs.Calls.{samplesAfter}
 use Rattle.demands.specs.Demand3.{sixStart, fiveStart, fourStart, roundedEnds}
 
--- ---- what a palette answers for a sample: the closest of its values, and the index of that
-abbrev pub ruleOf : Kind → EndPoints → Float → Closest
-ruleOf Six e = closest6 (inter6Palette (e .«c0_f») (e .«c1_f»))
-ruleOf Four e = closest4 (colors (e .«c0_f») (e .«c1_f»))
-
--- The value that an answer means. At index 0 of six values that is c0, where the encoder works with 7·factor2 + c1.
+-- ---- The value that an answer of a palette means. At index 0 of six values that is c0, where the encoder works with 7·factor2 + c1.
 abbrev pub meant : Kind → EndPoints → Closest → Float
 meant Six e a = cond (eqb (a .index) 0) (e .«c0_f») (a .value)
 meant Four e a = a .value
@@ -61,11 +55,6 @@ unfoldable pub byLevel : EndPoints → Choice
 byLevel e = record { ends = e; index = λ i. 0; value = λ i. e .«c0_f» }
 
 -- ---- the choices that the encoder has for a block, as it has entered
--- the endpoints of a pair of floats, in a mode
-abbrev pub endsIn : Kind → Bool → Pair → EndPoints
-endsIn Six snorm p = inter6 (p .0) (p .1) snorm
-endsIn Four snorm p = inter4 (p .0) (p .1) snorm
-
 abbrev pub twice : Float → Pair
 twice v = record { 0 = v; 1 = v }
 

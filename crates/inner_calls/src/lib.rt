@@ -316,18 +316,12 @@ pub extern "C" fn inner_least_squares(colors: &[f32; 16], w: &[f32; 16], out: &m
 
 #[no_mangle]
 pub extern "C" fn inner_dither6(c0: f32, c1: f32, b: &[f32; 16], data: &mut u64) -> f32 {
-    give_indexed(
-        bcn_util::dither::dither6(Inter6Palette::new(c0, c1), b),
-        data,
-    )
+    give_indexed(bcn_util::dither::dither(Kind::Six, b, c0, c1), data)
 }
 
 #[no_mangle]
 pub extern "C" fn inner_dither4(c0: f32, c1: f32, b: &[f32; 16], data: &mut u64) -> f32 {
-    give_indexed(
-        bcn_util::dither::dither4(Inter4Palette::new(c0, c1), b),
-        data,
-    )
+    give_indexed(bcn_util::dither::dither(Kind::Four, b, c0, c1), data)
 }
 
 // Nothing happens where the block has no pixel i.

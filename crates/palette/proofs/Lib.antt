@@ -6,3 +6,4 @@ pub mod ClosestLaws
 pub mod NoSevenths
 pub mod Outside
 pub mod SampleError
+pub mod Rules

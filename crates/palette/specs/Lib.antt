@@ -3,3 +3,4 @@ pub mod PaletteError
 pub mod Closest
 pub mod Rows
 pub mod ByKind
+pub mod Rules

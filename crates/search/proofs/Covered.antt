@@ -23,7 +23,7 @@ use Rattle.palette.specs.declared.Kind.{Kind}
 use Rattle.palette.specs.declared.Kind.the-variants.{Six, Four}
 use Rattle.palette.proofs.Finite.{byte-error-within}
 use Rattle.coding.specs.declared.Coded.{Coded}
-use Rattle.coding.specs.Coding.{ended6, ended4}
+use Rattle.coding.specs.Coding.{ended}
 use Rattle.search.specs.Search.{pairTried, firstMax, minsTried, minLimit, leastMax, searched}
 use Rattle.search.specs.Covered.{Covered, endsOf, pairError, pairBytes, OfPair}
 use Rattle.search.proofs.EveryPair.{NotBelow, kept-one, candidate, pair-is, mins-keep, mins-below, first-le, first-from}
@@ -97,7 +97,7 @@ module _ (b : List Float) (u : InUnit b) where
 module _ (b : List Float) where
   pair-ends : (kind : Kind) (min max : ℕ) → Covered b min max
       → (byteAt (pairBytes kind b min max) 0 ≡ endsOf kind min max .c0) × (byteAt (pairBytes kind b min max) 1 ≡ endsOf kind min max .c1)
-  unfolding ended6 ended4 ofBytes
+  unfolding ended ofBytes
   pair-ends Six min max c = packed-ends max min _ (omega (arith, c .max-to)) (omega (arith, c .max-to, c .apart))
   pair-ends Four min max c = packed-ends min max _ (omega (arith, c .max-to, c .apart)) (omega (arith, c .max-to))
 

@@ -16,7 +16,7 @@ use Rattle.end_points.specs.EndPoints.{ofBytes, exchanged}
 use Rattle.palette.specs.declared.Kind.{Kind}
 use Rattle.palette.specs.declared.Kind.the-variants.{Six, Four}
 use Rattle.coding.specs.declared.Coded.{Coded}
-use Rattle.search.specs.Search.{tried6, tried4, pairTried, maxesTried, firstMax, minsTried}
+use Rattle.search.specs.Search.{tried, pairTried, maxesTried, firstMax, minsTried}
 use Rattle.search.specs.Covered.{pairError, pairBytes}
 
 -- ---- where max starts
@@ -68,7 +68,7 @@ module _ (b : List Float) where
   candidate kind min max = record { bytes = pairBytes kind b min max; error = pairError kind b min max }
 
   pub pair-is : (best : Coded) (min max : ℕ) → pairTried b best min max ≡ kept (kept best (candidate Six min max)) (candidate Four min max)
-  unfolding pairTried tried6 tried4 ofBytes exchanged
+  unfolding pairTried tried ofBytes exchanged
   pair-is best min max = refl
 
   -- ---- over all pairs: what each pair keeps is kept,

@@ -11,7 +11,7 @@ use Rattle.end_points.specs.EndPoints.{ofBytes}
 use Rattle.palette.specs.declared.Kind.{Kind}
 use Rattle.palette.specs.declared.Kind.the-variants.{Six, Four}
 use Rattle.palette.specs.PaletteError.{paletteError}
-use Rattle.coding.specs.Coding.{ended6, ended4}
+use Rattle.coding.specs.Coding.{ended}
 use Rattle.search.specs.Search.{minLimit, leastMax}
 
 -- min from 0 up to but not including (largest·255 + 2), max from the larger of (smallest·255 - 1) and min + 1 to 255
@@ -32,8 +32,7 @@ pairError kind b min max = paletteError kind b (endsOf kind min max .«c0_f») (
 
 -- the block: both bytes, and for each sample the index of the closest value
 abbrev pub pairBytes : Kind → List Float → ℕ → ℕ → ℕ
-pairBytes Six b min max = ended6 b false (endsOf Six min max) .bytes
-pairBytes Four b min max = ended4 b false (endsOf Four min max) .bytes
+pairBytes kind b min max = ended kind b false (endsOf kind min max) .bytes
 
 -- n is the block of a covered pair in a mode
 pub record OfPair (b : List Float) (n : ℕ) : Type 0 where

@@ -9,25 +9,21 @@ use Rattle.floats.specs.Helpers.{byteOf}
 use Rattle.floats.specs.declared.Pair.{Pair}
 use Rattle.end_points.specs.declared.EndPoints.{EndPoints}
 use Rattle.end_points.specs.EndPoints.{ofBytes, exchanged}
+use Rattle.palette.specs.declared.Kind.{Kind}
 use Rattle.palette.specs.declared.Kind.the-variants.{Six, Four}
 use Rattle.palette.specs.PaletteError.{paletteError}
 use Rattle.coding.specs.declared.Coded.{Coded}
-use Rattle.coding.specs.Coding.{ended6, ended4}
+use Rattle.coding.specs.Coding.{ended}
 
 -- what is held, or the bytes of these endpoints if their palette error is strictly smaller
-unfoldable pub tried6 : List Float → Coded → EndPoints → Coded
-tried6 b best e =
-    let error = paletteError Six b (e .«c0_f») (e .«c1_f») in
-    cond (lt error (best .error)) (record { bytes = ended6 b false e .bytes; error = error }) best
-
-unfoldable pub tried4 : List Float → Coded → EndPoints → Coded
-tried4 b best e =
-    let error = paletteError Four b (e .«c0_f») (e .«c1_f») in
-    cond (lt error (best .error)) (record { bytes = ended4 b false e .bytes; error = error }) best
+unfoldable pub tried : Kind → List Float → Coded → EndPoints → Coded
+tried kind b best e =
+    let error = paletteError kind b (e .«c0_f») (e .«c1_f») in
+    cond (lt error (best .error)) (record { bytes = ended kind b false e .bytes; error = error }) best
 
 -- one pair: six values, then four
 unfoldable pub pairTried : List Float → Coded → ℕ → ℕ → Coded
-pairTried b best min max = let e = ofBytes max min false in tried4 b (tried6 b best e) (exchanged e)
+pairTried b best min max = let e = ofBytes max min false in tried Four b (tried Six b best e) (exchanged e)
 
 -- min with n values of max, from `first` on
 unfoldable pub maxesTried : List Float → Coded → ℕ → ℕ → ℕ → Coded

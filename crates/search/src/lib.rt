@@ -8,7 +8,7 @@ ghost use Rattle.palette.specs.declared.Kind.{Kind as KindOf};
 ghost use Rattle.palette.specs.declared.Kind.the-variants.{Six};
 ghost use Rattle.search.specs.Covered.{pairError};
 ghost use Rattle.search.specs.Floor.{maxFloors, Floors};
-ghost use Rattle.search.specs.Search.{tried6 as tried6Of, tried4 as tried4Of, pairTried, maxesTried, minsTried, firstMax, minLimit, leastMax, searched};
+ghost use Rattle.search.specs.Search.{tried as triedOf, pairTried, maxesTried, minsTried, firstMax, minLimit, leastMax, searched};
 
 mod floor;
 
@@ -17,26 +17,12 @@ use end_points::EndPoints;
 use floats::Pair;
 use palette::Kind;
 
-fn tried6(b: &[f32; 16], best: Coded, e: EndPoints) -> Coded
-    ensures { λ r. ⌜ r ≡ tried6Of (now (b .entry)) best e ⌝ }
+fn tried(kind: Kind, b: &[f32; 16], best: Coded, e: EndPoints) -> Coded
+    ensures { λ r. ⌜ r ≡ triedOf kind (now (b .entry)) best e ⌝ }
 {
-    let error = palette::palette_error(Kind::Six, b, e.c0_f, e.c1_f);
+    let error = palette::palette_error(kind, b, e.c0_f, e.c1_f);
     if error < best.error {
-        let found = coding::ended6(b, false, e);
-        return Coded {
-            bytes: found.bytes,
-            error: error,
-        };
-    }
-    best
-}
-
-fn tried4(b: &[f32; 16], best: Coded, e: EndPoints) -> Coded
-    ensures { λ r. ⌜ r ≡ tried4Of (now (b .entry)) best e ⌝ }
-{
-    let error = palette::palette_error(Kind::Four, b, e.c0_f, e.c1_f);
-    if error < best.error {
-        let found = coding::ended4(b, false, e);
+        let found = coding::ended(kind, b, false, e);
         return Coded {
             bytes: found.bytes,
             error: error,
@@ -54,7 +40,8 @@ fn pair_tried(b: &[f32; 16], floor: f32, best: Coded, min: u8, max: u8) -> Coded
         return best;
     }
     let e = EndPoints::new_inter6_unorm(max, min);
-    tried4(b, tried6(b, best, e), e.inter6_to_inter4())
+    let six = tried(Kind::Six, b, best, e);
+    tried(Kind::Four, b, six, e.inter6_to_inter4())
 }
 
 fn maxes_tried(b: &[f32; 16], floors: &[f32; 256], start: Coded, min: u8, first: u32) -> Coded

@@ -7,12 +7,13 @@ use Rattle.index_list.proofs.Laws.{filled-same}
 use Rattle.end_points.specs.declared.EndPoints.{EndPoints}
 use Rattle.block.specs.Samples.{pixelAt, perPixel}
 use Rattle.block.proofs.Fill.{getD-tabulate}
-use Rattle.palette.specs.declared.Closest.{Closest}
-use Rattle.coding.specs.Coding.{indexedBy, laidOut}
+use Rattle.palette.specs.declared.Kind.{Kind}
+use Rattle.coding.specs.Coding.{ruleOf, ended}
 use Rattle.single.specs.Single.{uniform}
 
-pub uniform-written : (rule : Float → Closest) (e : EndPoints) (v : Float) → uniform e (rule v .index) ≡ laidOut e (indexedBy rule (perPixel (λ i. v)) false) .bytes
-uniform-written rule e v =
+pub uniform-written : (kind : Kind) (e : EndPoints) (v : Float) → uniform e (ruleOf kind e v .index) ≡ ended kind (perPixel (λ i. v)) false e .bytes
+unfolding ended
+uniform-written kind e v =
     ap (packed (e .c0) (e .c1))
-    (filled-same (λ i. rule v .index) (λ i. rule (pixelAt (perPixel (λ i. v)) i) .index) 16
-    (λ k h. sym (ap (λ (x : Float). rule x .index) (getD-tabulate (λ i. v) nan 16 k h))))
+    (filled-same (λ i. ruleOf kind e v .index) (λ i. ruleOf kind e (pixelAt (perPixel (λ i. v)) i) .index) 16
+    (λ k h. sym (ap (λ (x : Float). ruleOf kind e x .index) (getD-tabulate (λ i. v) nan 16 k h))))

@@ -9,9 +9,8 @@ use Rattle.index_list.specs.Layout.{packed}
 use Rattle.end_points.specs.declared.EndPoints.{EndPoints}
 use Rattle.end_points.specs.EndPoints.{closest, inter6, inter4}
 use Rattle.block.specs.Samples.{perPixel}
-use Rattle.palette.specs.Palettes.{inter6Palette, colors}
-use Rattle.palette.specs.Closest.{closest6, closest4}
-use Rattle.coding.specs.Coding.{coded6}
+use Rattle.palette.specs.declared.Kind.the-variants.{Six, Four}
+use Rattle.coding.specs.Coding.{ruleOf, coded}
 
 -- BC4_EPSILON, 1 / 65536
 abbrev pub bc4Epsilon : Float
@@ -26,8 +25,8 @@ unfoldable pub nearerPalette : Float → Bool → ℕ
 nearerPalette v snorm =
     let e6 = inter6 v v snorm in
     let e4 = inter4 v v snorm in
-    let k6 = closest6 (inter6Palette (e6 .«c0_f») (e6 .«c1_f»)) v in
-    let k4 = closest4 (colors (e4 .«c0_f») (e4 .«c1_f»)) v in
+    let k6 = ruleOf Six e6 v in
+    let k4 = ruleOf Four e4 v in
     cond (lt (k4 .error) (k6 .error)) (uniform e4 (k4 .index)) (uniform e6 (k6 .index))
 
 -- One level if that is near enough; else a dithered block, or the nearest value of a palette.
@@ -35,4 +34,4 @@ unfoldable pub singleColor : Float → Bool → Bool → ℕ
 singleColor v snorm dither =
     let e = closest v snorm in
     cond (lt (absOf (e .«c0_f» ⊖ v)) bc4Epsilon) (uniform e 0)
-    (cond dither (coded6 (perPixel (λ i. v)) snorm true (record { 0 = v; 1 = v }) .bytes) (nearerPalette v snorm))
+    (cond dither (coded Six (perPixel (λ i. v)) snorm true (record { 0 = v; 1 = v }) .bytes) (nearerPalette v snorm))

@@ -6,8 +6,8 @@ ghost use lib.Ieee.{le};
 ghost use Rattle.floats.specs.Arithmetic.{f0, f1};
 ghost use Rattle.single.specs.Single.{uniform as uniformOf, nearerPalette, singleColor};
 use end_points::EndPoints;
-use floats::Pair;
 use index_list::IndexList;
+use palette::Kind;
 use palette::inter4::Inter4Palette;
 use palette::inter6::Inter6Palette;
 
@@ -46,7 +46,8 @@ pub fn single_color(value: f32, snorm: bool, dither: bool) -> u64
         return uniform(closest, 0);
     }
     if dither {
-        return coding::coded6(&[value; 16], snorm, true, Pair(value, value)).bytes;
+        let e = EndPoints::new_inter6(value, value, snorm);
+        return coding::ended(Kind::Six, &[value; 16], true, e).bytes;
     }
     nearer_palette(value, snorm)
 }

@@ -17,15 +17,19 @@ returns : tie.Need-returns
 unfolding singleColor
 returns c = rw (← c .before .before .before .before .new-closest .ensures, ← c .before .before .abs .ensures, c .before .if1 .taken, c .uniform .ensures)
 
-coded6-requires : tie.Need-coded6-requires
-coded6-requires c κs = search needs
+new-inter6-requires : tie.Need-new-inter6-requires
+new-inter6-requires c κs = search needs
+
+ended-requires : tie.Need-ended-requires
+ended-requires c κs = search needs
 
 returns-2 : tie.Need-returns-2
 unfolding singleColor tabulate
 returns-2 c =
-    let d = c .before .before in
+    let e = c .before .before in
+    let d = e .before in
     let k = d .before .before in
-    rw (← k .before .before .new-closest .ensures, ← k .abs .ensures, d .before .if1 .left, d .if2 .taken, c .coded6 .ensures)
+    rw (← k .before .before .new-closest .ensures, ← k .abs .ensures, d .before .if1 .left, d .if2 .taken, c .ended .ensures, e .new-inter6 .ensures)
 
 nearer-palette-requires : tie.Need-nearer-palette-requires
 nearer-palette-requires c κs = search needs
@@ -45,7 +49,8 @@ single-color-spec =
     abs-requires
     uniform-requires
     returns
-    coded6-requires
+    new-inter6-requires
+    ended-requires
     returns-2
     nearer-palette-requires
     returns-3)

@@ -3,6 +3,9 @@ use Rattle.bcn_util.specs.Diffusion.{given}
 use Rattle.bcn_util.proofs.dither.give.Statement.{statement}
 use Rattle.bcn_util.proofs.dither.give.Tie as tie
 
+add-j : tie.Need-add-j
+add-j c = omega (arith, c .before .pre (c .if1 .taken))
+
 mul-m : tie.Need-mul-m
 mul-m c = omega (arith, c .before .pre (c .if1 .taken))
 
@@ -24,4 +27,5 @@ unfolding given
 returns-2 c = rw (c .if1 .left)
 
 pub give-spec : {M : Type 1} → statement M
-give-spec = tie.close (tie.spec mul-m element-copy-out-m mul-m-2 element-write-m returns returns-2)
+give-spec =
+    tie.close (tie.spec add-j mul-m element-copy-out-m mul-m-2 element-write-m returns returns-2)

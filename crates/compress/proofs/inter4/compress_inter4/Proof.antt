@@ -12,12 +12,17 @@ first-ends-requires c κs = search needs
 refine-endpoints-requires : tie.Need-refine-endpoints-requires
 refine-endpoints-requires c κs = search needs
 
-coded4-requires : tie.Need-coded4-requires
-coded4-requires c κs = search needs
+new-inter4-requires : tie.Need-new-inter4-requires
+new-inter4-requires c κs = search needs
+
+ended-requires : tie.Need-ended-requires
+ended-requires c κs = search needs
 
 returns : tie.Need-returns
 unfolding compressInter4
-returns c = rw (c .coded4 .ensures, c .before .refine-endpoints .ensures, c .before .before .first-ends .ensures, c .before .before .before .min-max-with-threshold .ensures)
+returns c =
+    let r = c .before .before in
+    rw (c .ended .ensures, c .before .new-inter4 .ensures, r .refine-endpoints .ensures, r .before .first-ends .ensures, r .before .before .min-max-with-threshold .ensures)
 
 pub compress-inter4-spec : {M : Type 1} → statement M
 compress-inter4-spec =
@@ -26,5 +31,6 @@ compress-inter4-spec =
     min-max-with-threshold-requires
     first-ends-requires
     refine-endpoints-requires
-    coded4-requires
+    new-inter4-requires
+    ended-requires
     returns)
