@@ -1,12 +1,12 @@
 -- Each check says what the table's condition says.
-use mathlib.Core.Path.{_≡_, refl, sym, ap, _∙_, subst}
+use mathlib.Core.Path.{_≡_, refl, sym, ap, _∙_}
 use mathlib.Core.Bool.{Bool, true, false, not, cond, _||_, or-assoc}
 use mathlib.Core.Logic.{_⊎_, inl, inr}
 use mathlib.Core.List.{List, [], _∷_}
-use Prim.Native.Nat.{ℕ, zero, suc, _%_, _<_, _≤_}
+use Prim.Native.Nat.{ℕ, zero, suc, _%_, _<_}
 use native.Mathlib.Nat.{le-of-suc-le-suc}
 use native.Mathlib.Omega.{arith}
-use lib.Dec.{leb, ltb, eqb}
+use lib.Dec.{ltb, eqb}
 use lib.ListN.{length}
 use lib.Ieee.{Float, isNan}
 use borrow.Author.Tests.{lt-ltb, ltb-true, le-leb, leb-true, eq-eqb, eqb-true, ne-eqb, eqb-false, not-true}
@@ -53,43 +53,33 @@ unfolding wordOf
 word-iff flags limit quality last = or-iff _ _ (below-iff 2 quality) (unequal-iff last 0)
 
 -- ---- the lowest index of a NaN
-lowest-nan : (s : List Float) → firstNan s < length s → LowestNan s (firstNan s)
+pub none-before : (s : List Float) (i : ℕ) → i < firstNan s → isNan (pixelAt s i) ≡ false
 unfolding firstNan
-lowest-nan [] h = absurd (omega arith)
-lowest-nan (x ∷ s) h = go (isNan x) refl h (lowest-nan s)
+none-before [] i l = absurd (omega arith)
+none-before (x ∷ s) i l = go (isNan x) refl i l (none-before s)
   where
-    go : (t : Bool) → isNan x ≡ t → cond t 0 (suc (firstNan s)) < suc (length s) → (firstNan s < length s → LowestNan s (firstNan s)) → LowestNan (x ∷ s) (cond t 0 (suc (firstNan s)))
-    go true t h rest = record { within = omega arith; there = t; none-lower = λ j l. absurd (omega arith) }
-    go false t h rest = let r = rest (le-of-suc-le-suc h) in record { within = h; there = r .there; none-lower = lower r }
-      where
-        lower : LowestNan s (firstNan s) → (j : ℕ) → j < suc (firstNan s) → isNan (pixelAt (x ∷ s) j) ≡ false
-        lower r zero l = t
-        lower r (suc j) l = r .none-lower j (le-of-suc-le-suc l)
+    go : (t : Bool) → isNan x ≡ t → (i : ℕ) → i < cond t 0 (suc (firstNan s)) → ((i : ℕ) → i < firstNan s → isNan (pixelAt s i) ≡ false) → isNan (pixelAt (x ∷ s) i) ≡ false
+    go true t i l rest = absurd (omega arith)
+    go false t zero l rest = t
+    go false t (suc i) l rest = rest i (le-of-suc-le-suc l)
+
+nan-there : (s : List Float) → firstNan s < length s → isNan (pixelAt s (firstNan s)) ≡ true
+unfolding firstNan
+nan-there [] h = absurd (omega arith)
+nan-there (x ∷ s) h = go (isNan x) refl h (nan-there s)
+  where
+    go : (t : Bool) → isNan x ≡ t → cond t 0 (suc (firstNan s)) < suc (length s) → (firstNan s < length s → isNan (pixelAt s (firstNan s)) ≡ true) → isNan (pixelAt (x ∷ s) (cond t 0 (suc (firstNan s)))) ≡ true
+    go true t h rest = t
+    go false t h rest = rest (le-of-suc-le-suc h)
 
 nan-found : (s : List Float) (i : ℕ) → LowestNan s i → firstNan s ≡ i
-unfolding firstNan
-nan-found [] i w = absurd (let h = w .within in omega arith)
-nan-found (x ∷ s) zero w = rw (w .there)
-nan-found (x ∷ s) (suc i) w =
-    let rest = nan-found s i (record { within = le-of-suc-le-suc (w .within); there = w .there; none-lower = λ j l. w .none-lower (suc j) (omega arith) }) in
-    rw (w .none-lower 0 (omega arith)) (ap suc rest)
+nan-found s i w =
+    let before : firstNan s < i → ⊥ = λ l. let h = w .within in clash (nan-there s (omega arith)) (w .none-lower (firstNan s) l) in
+    let after : i < firstNan s → ⊥ = λ l. clash (w .there) (none-before s i l) in
+    omega arith
 
 pub nan-same : (s : List Float) → Same (nanCheck s) (WhenNan s)
 nan-same s q = (
-  λ x. (firstNan s, x .0, lowest-nan s (ltb-true (firstNan s) (length s) (x .1))),
-  λ y.
-      let found = nan-found s (y .0) (y .2) in
-      (y .1 ∙ ap SampleIsNan (sym found), lt-ltb (firstNan s) (length s) (subst (λ (i : ℕ). i < length s) (sym found) (y .2 .within))),
+  λ x. let h = ltb-true _ _ (x .1) in (firstNan s, x .0, record { within = h; there = nan-there s h; none-lower = none-before s }),
+  λ y. let found = nan-found s (y .0) (y .2) in let h = y .2 .within in (y .1 ∙ ap SampleIsNan (sym found), lt-ltb (firstNan s) (length s) (omega arith)),
 )
-
--- where the search ends without one, no sample is NaN
-pub nan-free : (s : List Float) → length s ≤ firstNan s → (i : ℕ) → i < length s → isNan (pixelAt s i) ≡ false
-unfolding firstNan
-nan-free [] h i l = absurd (omega arith)
-nan-free (x ∷ s) h i l = go (isNan x) refl h i l (nan-free s)
-  where
-    go : (t : Bool) → isNan x ≡ t → suc (length s) ≤ cond t 0 (suc (firstNan s)) → (i : ℕ) → i < suc (length s)
-        → (length s ≤ firstNan s → (i : ℕ) → i < length s → isNan (pixelAt s i) ≡ false) → isNan (pixelAt (x ∷ s) i) ≡ false
-    go true t h i l rest = absurd (omega arith)
-    go false t h zero l rest = t
-    go false t h (suc i) l rest = rest (le-of-suc-le-suc h) i (le-of-suc-le-suc l)

@@ -7,19 +7,17 @@ use lib.ListN.{length}
 use lib.Ieee.{Float}
 use Rattle.options.specs.declared.Options.{Options}
 use Rattle.refusal.specs.declared.Refusal.{Refusal}
-use Rattle.refusal.specs.declared.Refusal.the-variants.{WordMalformed}
 use Rattle.refusal.specs.declared.Checked.{Checked}
 use Rattle.refusal.specs.declared.Checked.the-variants.{Passed, Refused}
 use Rattle.bc4.specs.declared.Encoded.the-variants.{Block, Refused as NotEncoded}
 use Rattle.bc4.specs.declared.Scored.the-variants.{Error, Refused as NotScored}
 use Rattle.bc4.specs.declared.Resent.the-variants.{Block as Answered, Refused as NotResent}
 use Rattle.bc4.specs.declared.Tiled.the-variants.{Written, Refused as NotTiled}
-use Rattle.refusal.specs.Refusals.{Check, when, firstOf, answered, encodeChecks, errorChecks, resendChecks, tileChecks}
+use Rattle.refusal.specs.Refusals.{Check, firstOf, answered, encodeChecks, resendChecks, tileChecks}
 use Rattle.refusal.proofs.Firsts.{refusal-of}
-use Rattle.bc4.specs.Word.{wordOf}
 use Rattle.bc4.specs.Calls.{ofEncoded, ofScored, ofResent, ofTiled}
-use Rattle.demands.specs.Demand1.{Condition, When, BadWord, Exactly, InNumberOrder, Demand1, EncodeRefuses, ResendRefuses, TileRefuses}
-use Rattle.demands.proofs.Refusing.{Same, Alike, end, then, at-last, ascends, exactly, in-order}
+use Rattle.demands.specs.Demand1.{Condition, Exactly, InNumberOrder, Demand1, EncodeRefuses, ResendRefuses, TileRefuses}
+use Rattle.demands.proofs.Refusing.{Alike, end, then, at-last, ascends, exactly, in-order}
 use Rattle.demands.proofs.Conditions.{when-same, iff-refl, unequal-iff, below-iff, size-iff, place-iff, word-iff, nan-same}
 
 -- ---- each check of a call is its condition
@@ -31,9 +29,6 @@ resend-alike s held o = then (when-same (unequal-iff _ _)) (then (when-same (une
 
 tile-alike : (s : List Float) (width height : ℕ) (out : List ℕ) → Alike (tileChecks s width height (length out)) (TileRefuses s width height out)
 tile-alike s width height out = then (when-same (size-iff width height)) (then (when-same (unequal-iff _ _)) (then (when-same (below-iff _ _)) (then (nan-same s) end)))
-
-word-same : (flags limit quality last : ℕ) → Same (when WordMalformed (wordOf flags limit quality last .malformed)) (When WordMalformed (BadWord quality last))
-word-same flags limit quality last = when-same (word-iff flags limit quality last)
 
 pub encode-exactly : (s : List Float) → Exactly (firstOf (encodeChecks s)) (EncodeRefuses s)
 encode-exactly s = exactly (encode-alike s)
@@ -53,11 +48,11 @@ demand-1 = record {
   view = λ tile width height column row.
       in-order (then (when-same (size-iff width height)) (then (when-same (unequal-iff _ _)) (then (when-same (place-iff width height column row)) end))) tt;
   encode-word = λ s flags limit quality last.
-      answer-in-order ofEncoded NotEncoded (Block _) refl (λ q. refl) (at-last (encode-alike s) (word-same flags limit quality last)) tt;
+      answer-in-order ofEncoded NotEncoded (Block _) refl (λ q. refl) (at-last (encode-alike s) (when-same (word-iff flags limit quality last))) tt;
   resend-word = λ s held flags limit quality last.
-      answer-in-order ofResent NotResent (Answered _) refl (λ q. refl) (at-last (resend-alike s held _) (word-same flags limit quality last)) tt;
+      answer-in-order ofResent NotResent (Answered _) refl (λ q. refl) (at-last (resend-alike s held _) (when-same (word-iff flags limit quality last))) tt;
   tile-word = λ s width height out flags limit quality last.
-      answer-in-order ofTiled NotTiled (Written _) refl (λ q. refl) (at-last (tile-alike s width height out) (word-same flags limit quality last)) tt;
+      answer-in-order ofTiled NotTiled (Written _) refl (λ q. refl) (at-last (tile-alike s width height out) (when-same (word-iff flags limit quality last))) tt;
   decode-leaves = λ q encoded snorm before. refl;
   tile-leaves = λ q samples width height o before. refl;
   view-empty = λ q tile width height column row e. rw e;

@@ -1,8 +1,10 @@
 -- Demand 2.
 use mathlib.Core.Path.{_≡_, refl, sym, ap, _∙_, subst}
 use mathlib.Core.Bool.{false}
+use mathlib.Core.Logic.{inl, inr}
 use mathlib.Core.List.{List, _++_}
-use Prim.Native.Nat.{ℕ, _<_}
+use Prim.Native.Nat.{ℕ, _<_, _≤_}
+use native.Mathlib.Omega.{arith}
 use lib.ListN.{length, take, drop}
 use lib.Ieee.{Float, isNan}
 use borrow.Author.Tests.{ltb-false}
@@ -21,11 +23,11 @@ use Rattle.place.proofs.Samples.{blockOf-length, blockOf-real}
 use Rattle.refusal.specs.declared.Checked.the-variants.{Passed}
 use Rattle.bc4.specs.declared.Encoded.the-variants.{Block}
 use Rattle.bc4.specs.declared.Tiled.the-variants.{Written, Refused as NotTiled}
-use Rattle.refusal.specs.Refusals.{firstOf, encodeChecks, tileChecks}
+use Rattle.refusal.specs.Refusals.{firstOf, firstNan, encodeChecks, tileChecks}
 use Rattle.bc4.specs.Calls.{ofTiled, encodeAnswer}
 use Rattle.refusal.proofs.Firsts.{refusal-of, Clear, first-clear, same-of}
 use Rattle.demands.specs.Demand2.{Demand2}
-use Rattle.demands.proofs.Conditions.{nan-free}
+use Rattle.demands.proofs.Conditions.{none-before}
 use Rattle.demands.proofs.Demand1.{encode-exactly}
 
 block-answer : (s : List Float) (o : Options) → firstOf (encodeChecks s) ≡ Passed → encodeAnswer s o ≡ Block (compressed s o)
@@ -34,10 +36,11 @@ block-answer s o e = rw e
 -- what the block call asks of its samples
 accepted : (s : List Float) → length s ≡ 16 → ((i : ℕ) → i < 16 → isNan (pixelAt s i) ≡ false) → firstOf (encodeChecks s) ≡ Passed
 accepted s long real =
-    encode-exactly s .passed .1 (
-      λ q x. x .1 long,
-      (λ q y. clash (y .2 .there) (real (y .0) (subst (λ (n : ℕ). y .0 < n) long (y .2 .within))), tt),
-    )
+    encode-exactly s .passed .1 (λ q x. elim x [
+      | inl y ↦ y .1 long
+      | inr (inl y) ↦ clash (y .2 .there) (real (y .0) (subst (λ (n : ℕ). y .0 < n) long (y .2 .within)))
+      | inr (inr y) ↦ y
+    ])
 
 module _ (s : List Float) (width height : ℕ) (o : Options) (out : List ℕ) (passed : firstOf (tileChecks s width height (length out)) ≡ Passed) (column row : ℕ) (h : column < along width)
     (k : row < along height) where
@@ -47,7 +50,7 @@ module _ (s : List Float) (width height : ℕ) (o : Options) (out : List ℕ) (p
   block-accepted : firstOf (encodeChecks (blockOf s width column row)) ≡ Passed
   block-accepted =
       accepted (blockOf s width column row) (blockOf-length s width column row)
-      (blockOf-real s width height column row (same-of _ _ (clear .1 .0)) h k (nan-free s (ltb-false _ _ (clear .1 .1 .1 .0))))
+      (blockOf-real s width height column row (same-of _ _ (clear .1 .0)) h k (λ i l. let free : length s ≤ firstNan s = ltb-false _ _ (clear .1 .1 .1 .0) in none-before s i (omega arith)))
 
   block-stands : take 8 (drop (blockAt width column row) (tileBytes s width o (along height) ++ drop (encodedLength width height) out)) ≡ bytesOf (compressed (blockOf s width column row) o)
   block-stands =

@@ -1,7 +1,7 @@
 -- The first check that applies, for any list of checks: exactly when. And where the numbers of the checks ascend: the lowest.
-use mathlib.Core.Path.{_≡_, refl, sym, ap, _∙_}
+use mathlib.Core.Path.{_≡_, refl, sym, ap}
 use mathlib.Core.Bool.{Bool, true, false, cond}
-use mathlib.Core.Logic.{_⊎_, inl, inr}
+use mathlib.Core.Logic.{inl, inr}
 use mathlib.Core.List.{List, [], _∷_, _++_}
 use Prim.Native.Nat.{ℕ, _<_, _≤_}
 use native.Mathlib.Omega.{arith}
@@ -9,11 +9,10 @@ use lib.Dec.{T, ltb, lit<}
 use Rattle.floats.proofs.Tests.{clash}
 use Rattle.floats.proofs.Table.{both, both-left, both-right}
 use Rattle.refusal.specs.declared.Refusal.{Refusal}
-use Rattle.refusal.specs.declared.Checked.{Checked}
-use Rattle.refusal.specs.declared.Checked.the-variants.{Passed, Refused}
-use Rattle.refusal.specs.Refusals.{numberOf, Check, firstOf, answered}
+use Rattle.refusal.specs.declared.Checked.the-variants.{Refused}
+use Rattle.refusal.specs.Refusals.{numberOf, Check, firstOf}
 use Rattle.refusal.proofs.Firsts.{apart}
-use Rattle.demands.specs.Demand1.{Condition, Iff, Never, AnyOf, Exactly, InNumberOrder}
+use Rattle.demands.specs.Demand1.{Condition, Iff, AnyOf, Exactly, InNumberOrder}
 
 -- a check and a condition say the same
 abbrev pub Same : Check → Condition → Type 0
@@ -30,7 +29,7 @@ at-last (then t rest) s = then t (at-last rest s)
 
 pub exactly : {cs : List Check} {Cs : List Condition} → Alike cs Cs → Exactly (firstOf cs) Cs
 unfolding firstOf
-exactly end = record { refused = λ q. (λ e. apart (sym e), λ x. absurd x); passed = (λ e. tt, λ x. refl) }
+exactly end = record { refused = λ q. (λ e. apart (sym e), λ x. absurd x); passed = (λ e q x. x, λ f. refl) }
 exactly (then {c} {C} {cs} {Cs} same rest) = go (c .applies) refl (exactly rest)
   where
     go : (t : Bool) → c .applies ≡ t → Exactly (firstOf cs) Cs → Exactly (cond t (Refused (c .refusal)) (firstOf cs)) (C ∷ Cs)
@@ -38,13 +37,13 @@ exactly (then {c} {C} {cs} {Cs} same rest) = go (c .applies) refl (exactly rest)
         let here : C (c .refusal) = same (c .refusal) .0 (refl, t) in
         record {
           refused = λ q. (λ e. let s : c .refusal ≡ q = cc in inl (rw (← s) here), λ f. elim f [ inl x ↦ ap Refused (sym (same q .1 x .0)) | inr y ↦ absurd (y .0 (c .refusal) here) ]);
-          passed = (λ e. absurd (apart e), λ none. absurd (none .0 (c .refusal) here));
+          passed = (λ e. absurd (apart e), λ none. absurd (none (c .refusal) (inl here)));
         }
     go false t later =
-        let never : Never C = λ p x. clash (same p .1 x .1) t in
+        let never : (p : Refusal) → C p → ⊥ = λ p x. clash (same p .1 x .1) t in
         record {
           refused = λ q. (λ e. inr (never, later .refused q .0 e), λ f. elim f [ inl x ↦ absurd (never q x) | inr y ↦ later .refused q .1 (y .1) ]);
-          passed = (λ e. (never, later .passed .0 e), λ none. later .passed .1 (none .1));
+          passed = (λ e q x. elim x [ inl y ↦ never q y | inr z ↦ later .passed .0 e q z ], λ none. later .passed .1 (λ q z. none q (inr z)));
         }
 
 -- ---- the numbers ascend, from above n

@@ -88,17 +88,10 @@ ThenBadWord conditions quality last = conditions ++ When WordMalformed (BadWord 
 abbrev pub Iff : Type 0 → Type 0 → Type 0
 Iff P Q = (P → Q) × (Q → P)
 
-abbrev pub Never : Condition → Type 0
-Never C = (q : Refusal) → C q → ⊥
-
--- a condition of the list gives q, and none that stands before it gives any refusal
+-- a condition of the list gives q, and none that stands before it gives any
 abbrev pub FirstOf : List Condition → Refusal → Type 0
 FirstOf [] q = ⊥
-FirstOf (C ∷ Cs) q = C q ⊎ (Never C × FirstOf Cs q)
-
-abbrev pub NoneOf : List Condition → Type 0
-NoneOf [] = Unit {0}
-NoneOf (C ∷ Cs) = Never C × NoneOf Cs
+FirstOf (C ∷ Cs) q = C q ⊎ (((p : Refusal) → C p → ⊥) × FirstOf Cs q)
 
 abbrev pub AnyOf : List Condition → Refusal → Type 0
 AnyOf [] q = ⊥
@@ -107,7 +100,7 @@ AnyOf (C ∷ Cs) q = C q ⊎ AnyOf Cs q
 -- Refusal q is given if and only if its condition holds and none before it in the call's list does; none is given if and only if no condition holds.
 pub record Exactly (answer : Checked) (conditions : List Condition) : Type 0 where
   pub refused : (q : Refusal) → Iff (answer ≡ Refused q) (FirstOf conditions q)
-  pub passed : Iff (answer ≡ Passed) (NoneOf conditions)
+  pub passed : Iff (answer ≡ Passed) ((q : Refusal) → AnyOf conditions q → ⊥)
 
 -- Document 01: "Checks run in number order; the lowest that applies is returned, and none otherwise." So no condition that holds is for a lower number.
 pub record InNumberOrder (answer : Checked) (conditions : List Condition) : Type 0 where

@@ -12,7 +12,6 @@ use Rattle.bc4.specs.declared.Encoded.{Encoded}
 use Rattle.bc4.specs.declared.Encoded.the-variants.{Block, Refused as NotEncoded}
 use Rattle.bc4.specs.declared.Scored.{Scored}
 use Rattle.bc4.specs.declared.Scored.the-variants.{Error, Refused as NotScored}
-use Rattle.bc4.specs.declared.Kept.{Kept}
 use Rattle.bc4.specs.declared.Resent.{Resent}
 use Rattle.bc4.specs.declared.Resent.the-variants.{Block as Answered, Refused as NotResent}
 use Rattle.bc4.specs.declared.Tiled.{Tiled}

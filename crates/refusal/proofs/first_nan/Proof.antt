@@ -2,7 +2,6 @@
 use Prim.Native.Nat.{_-_, _≤_}
 use lib.ListN.{length}
 use borrow.Author.Needs.{needs}
-use Rattle.refusal.specs.Refusals.{firstNan}
 use Rattle.refusal.proofs.Nans.{Passed-to, nan-here, nan-later, nan-none}
 use Rattle.refusal.proofs.first_nan.Statement.{statement}
 use Rattle.refusal.proofs.first_nan.Tie as tie
