@@ -10,7 +10,7 @@ use Rattle.options.specs.declared.Options.{Options}
 use Rattle.encode.specs.Encoder.{compressed}
 use Rattle.decode.specs.Meaning.{decoded}
 use Rattle.decode.specs.BlockError.{blockError}
-use Rattle.place.specs.Place.{along, encodedLength, blockAt}
+use Rattle.place.specs.Place.{bc4Size, encodedLength, blockAt}
 use Rattle.tile.specs.Tile.{tileBytes}
 use Rattle.refusal.specs.declared.Checked.{Checked}
 use Rattle.refusal.specs.declared.Checked.the-variants.{Passed, Refused}
@@ -66,14 +66,14 @@ resendAnswer samples held o = answered NotResent (Answered (betterOf samples (fr
 
 -- ---- encode tile; `room` is the length of the output
 abbrev pub tileAnswer : List Float → ℕ → ℕ → ℕ → Tiled
-tileAnswer samples width height room = answered NotTiled (Written (encodedLength width height)) (firstOf (tileChecks samples width height room))
+tileAnswer samples width height room = answered NotTiled (Written (encodedLength bc4Size width height)) (firstOf (tileChecks samples width height room))
 
 -- the output after the call: the blocks, and then what was there before
 abbrev pub outAfter : Tiled → List Float → ℕ → ℕ → Options → List ℕ → List ℕ
 outAfter answer samples width height o before =
-    answered (λ q. before) (tileBytes samples width o (along height) ++ drop (encodedLength width height) before) (ofTiled answer)
+    answered (λ q. before) (tileBytes samples width height o ++ drop (encodedLength bc4Size width height) before) (ofTiled answer)
 
 -- ---- block view
 abbrev pub viewOf : List ℕ → ℕ → ℕ → ℕ → ℕ → List ℕ
 viewOf tile width height column row =
-    answered (λ q. []) (take 8 (drop (blockAt width column row) tile)) (firstOf (viewChecks (length tile) width height column row))
+    answered (λ q. []) (take bc4Size (drop (blockAt bc4Size width column row) tile)) (firstOf (viewChecks (length tile) width height column row))

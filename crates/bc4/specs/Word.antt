@@ -21,7 +21,7 @@ use Rattle.bc4.specs.declared.Tiled.{Tiled}
 use Rattle.bc4.specs.declared.Tiled.the-variants.{Written, Refused as NotTiled}
 use Rattle.index_list.specs.Layout.{fromBytes}
 use Rattle.encode.specs.Encoder.{compressed}
-use Rattle.place.specs.Place.{encodedLength}
+use Rattle.place.specs.Place.{bc4Size, encodedLength}
 use Rattle.refusal.specs.Refusals.{firstOf, answered, encodeChecks, resendChecks, tileChecks, andWord}
 use Rattle.bc4.specs.Calls.{betterOf}
 
@@ -60,4 +60,4 @@ resendByWord samples held w =
 -- `room` is the length of the output
 abbrev pub tileByWord : List Float → ℕ → ℕ → Word → ℕ → Tiled
 tileByWord samples width height w room =
-    answered NotTiled (Written (encodedLength width height)) (firstOf (andWord (tileChecks samples width height room) (w .malformed)))
+    answered NotTiled (Written (encodedLength bc4Size width height)) (firstOf (andWord (tileChecks samples width height room) (w .malformed)))

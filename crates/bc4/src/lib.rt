@@ -144,9 +144,8 @@ pub fn encode_tile(
     match checked {
         Checked::Refused(q) => Tiled::Refused(q),
         Checked::Passed => {
-            let area = width * height;
-            tile::encode_rows(samples, width, height / 4, o, out);
-            Tiled::Written(area / 2)
+            tile::encode_rows(samples, width, height, o, out);
+            Tiled::Written(place::encoded_length(place::BC4_SIZE, width, height))
         }
     }
 }
@@ -159,8 +158,8 @@ pub fn block_view(tile: &[u8], width: usize, height: usize, column: usize, row: 
     match checked {
         Checked::Refused(_) => &tile[0..0],
         Checked::Passed => {
-            let at = place::block_at(width, column, row);
-            &tile[at..at + 8]
+            let at = place::block_at(place::BC4_SIZE, width, column, row);
+            &tile[at..at + place::BC4_SIZE]
         }
     }
 }

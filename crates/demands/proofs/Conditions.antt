@@ -3,7 +3,7 @@ use mathlib.Core.Path.{_≡_, refl, sym, ap, _∙_}
 use mathlib.Core.Bool.{Bool, true, false, not, cond, _||_, or-assoc}
 use mathlib.Core.Logic.{_⊎_, inl, inr}
 use mathlib.Core.List.{List, [], _∷_}
-use Prim.Native.Nat.{ℕ, zero, suc, _%_, _<_}
+use Prim.Native.Nat.{ℕ, zero, suc, _%_, _<_, _*_, _/_}
 use native.Mathlib.Nat.{le-of-suc-le-suc}
 use native.Mathlib.Omega.{arith}
 use lib.Dec.{ltb, eqb}
@@ -12,7 +12,7 @@ use lib.Ieee.{Float, isNan}
 use borrow.Author.Tests.{lt-ltb, ltb-true, le-leb, leb-true, eq-eqb, eqb-true, ne-eqb, eqb-false, not-true}
 use Rattle.floats.proofs.Tests.{clash}
 use Rattle.block.specs.Samples.{pixelAt}
-use Rattle.place.specs.Place.{longestSide, badSide, badSize, along, noBlock}
+use Rattle.place.specs.Place.{longestSide, badSide, badSize, along, noBlock, bc4Size, encodedLength}
 use Rattle.refusal.specs.declared.Refusal.{Refusal}
 use Rattle.refusal.specs.declared.Refusal.the-variants.{SampleIsNan}
 use Rattle.refusal.specs.Refusals.{when, nanCheck, firstNan}
@@ -40,6 +40,16 @@ below-iff m n = (ltb-true m n, lt-ltb m n)
 side-iff : (n : ℕ) → Iff (badSide n ≡ true) (BadSide n)
 unfolding badSide
 side-iff n = rw (or-assoc (eqb n 0) (ltb longestSide n)) (or-iff _ _ (eqb-true n 0, eq-eqb n 0) (or-iff _ _ (below-iff longestSide n) (unequal-iff (n % 4) 0)))
+
+-- the bytes of a tile in the document's words
+half : (width height : ℕ) → encodedLength bc4Size width height ≡ width * height / 2
+half width height = omega arith
+
+pub output-iff : (room width height : ℕ) → Iff (ltb room (encodedLength bc4Size width height) ≡ true) (room < width * height / 2)
+output-iff room width height = rw (half width height) (below-iff room (width * height / 2))
+
+pub encoded-iff : (long width height : ℕ) → Iff (not (eqb long (encodedLength bc4Size width height)) ≡ true) (long ≡ width * height / 2 → ⊥)
+encoded-iff long width height = rw (half width height) (unequal-iff long (width * height / 2))
 
 pub size-iff : (width height : ℕ) → Iff (badSize width height ≡ true) (BadSide width ⊎ BadSide height)
 unfolding badSize

@@ -18,7 +18,7 @@ use Rattle.refusal.proofs.Firsts.{refusal-of}
 use Rattle.bc4.specs.Calls.{ofEncoded, ofScored, ofResent, ofTiled}
 use Rattle.demands.specs.Demand1.{Condition, Exactly, InNumberOrder, Demand1, EncodeRefuses, ResendRefuses, TileRefuses}
 use Rattle.demands.proofs.Refusing.{Alike, end, then, at-last, ascends, exactly, in-order}
-use Rattle.demands.proofs.Conditions.{when-same, iff-refl, unequal-iff, below-iff, size-iff, place-iff, word-iff, nan-same}
+use Rattle.demands.proofs.Conditions.{when-same, iff-refl, unequal-iff, output-iff, encoded-iff, size-iff, place-iff, word-iff, nan-same}
 
 -- ---- each check of a call is its condition
 encode-alike : (s : List Float) → Alike (encodeChecks s) (EncodeRefuses s)
@@ -28,7 +28,7 @@ resend-alike : (s : List Float) (held : List ℕ) (o : Options) → Alike (resen
 resend-alike s held o = then (when-same (unequal-iff _ _)) (then (when-same (unequal-iff _ _)) (then (when-same iff-refl) (then (nan-same s) end)))
 
 tile-alike : (s : List Float) (width height : ℕ) (out : List ℕ) → Alike (tileChecks s width height (length out)) (TileRefuses s width height out)
-tile-alike s width height out = then (when-same (size-iff width height)) (then (when-same (unequal-iff _ _)) (then (when-same (below-iff _ _)) (then (nan-same s) end)))
+tile-alike s width height out = then (when-same (size-iff width height)) (then (when-same (unequal-iff _ _)) (then (when-same (output-iff _ width height)) (then (nan-same s) end)))
 
 pub encode-exactly : (s : List Float) → Exactly (firstOf (encodeChecks s)) (EncodeRefuses s)
 encode-exactly s = exactly (encode-alike s)
@@ -46,7 +46,7 @@ demand-1 = record {
   resend = λ s held o. answer-in-order ofResent NotResent (Answered _) refl (λ q. refl) (resend-alike s held o) tt;
   tile = λ s width height out. answer-in-order ofTiled NotTiled (Written _) refl (λ q. refl) (tile-alike s width height out) tt;
   view = λ tile width height column row.
-      in-order (then (when-same (size-iff width height)) (then (when-same (unequal-iff _ _)) (then (when-same (place-iff width height column row)) end))) tt;
+      in-order (then (when-same (size-iff width height)) (then (when-same (encoded-iff _ width height)) (then (when-same (place-iff width height column row)) end))) tt;
   encode-word = λ s flags limit quality last.
       answer-in-order ofEncoded NotEncoded (Block _) refl (λ q. refl) (at-last (encode-alike s) (when-same (word-iff flags limit quality last))) tt;
   resend-word = λ s held flags limit quality last.

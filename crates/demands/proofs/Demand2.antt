@@ -9,16 +9,15 @@ use lib.ListN.{length, take, drop}
 use lib.Ieee.{Float, isNan}
 use borrow.Author.Tests.{ltb-false}
 use Rattle.floats.proofs.Tests.{clash}
-use Rattle.index_list.specs.Layout.{bytesOf, fromBytes}
+use Rattle.index_list.specs.Layout.{fromBytes}
 use Rattle.block.specs.Samples.{pixelAt}
 use Rattle.options.specs.declared.Options.{Options}
 use Rattle.encode.specs.Encoder.{compressed}
 use Rattle.decode.proofs.Bound.{decoded-close}
-use Rattle.place.specs.Place.{along, encodedLength, blockAt, blockOf}
-use Rattle.tile.specs.Tile.{tileBytes}
+use Rattle.place.specs.Place.{along, bc4Size, encodedLength, blockAt, blockOf}
+use Rattle.tile.specs.Tile.{blockBytes, tileBytes}
 use Rattle.place.proofs.Places.{rows-length, block-within}
-use Rattle.tile.proofs.Stretches.{tile-length}
-use Rattle.tile.proofs.Blocks.{in-first, tile-block}
+use Rattle.place.proofs.Joined.{in-first, all-length, block-stands}
 use Rattle.place.proofs.Samples.{blockOf-length, blockOf-real}
 use Rattle.refusal.specs.declared.Checked.the-variants.{Passed}
 use Rattle.bc4.specs.declared.Encoded.the-variants.{Block}
@@ -52,11 +51,11 @@ module _ (s : List Float) (width height : ℕ) (o : Options) (out : List ℕ) (p
       accepted (blockOf s width column row) (blockOf-length s width column row)
       (blockOf-real s width height column row (same-of _ _ (clear .1 .0)) h k (λ i l. let free : length s ≤ firstNan s = ltb-false _ _ (clear .1 .1 .1 .0) in none-before s i (omega arith)))
 
-  block-stands : take 8 (drop (blockAt width column row) (tileBytes s width o (along height) ++ drop (encodedLength width height) out)) ≡ bytesOf (compressed (blockOf s width column row) o)
-  block-stands =
-      let long = tile-length s width o (along height) ∙ rows-length width height (clear .0) in
-      in-first (tileBytes s width o (along height)) (drop (encodedLength width height) out) (blockAt width column row) (encodedLength width height) long
-      (block-within width height (clear .0) column row h k) ∙ tile-block s width o (along height) column row h k
+  block-there : take bc4Size (drop (blockAt bc4Size width column row) (tileBytes s width height o ++ drop (encodedLength bc4Size width height) out)) ≡ blockBytes s width o column row
+  block-there =
+      let long = all-length (blockBytes s width o) bc4Size width (λ c r. refl) height ∙ rows-length width height (clear .0) bc4Size in
+      in-first (tileBytes s width height o) (drop (encodedLength bc4Size width height) out) bc4Size (blockAt bc4Size width column row) (rw long (block-within width height (clear .0) bc4Size column row h k))
+      ∙ block-stands (blockBytes s width o) bc4Size width (λ c r. refl) height column row h k
 
 pub demand-2 : Demand2
 demand-2 = record {
@@ -64,5 +63,5 @@ demand-2 = record {
   near = λ encoded snorm before i h. decoded-close snorm (fromBytes encoded) i h;
   tiled = λ s width height o out n e column row h k.
       let passed = sym (refusal-of ofTiled NotTiled (Written _) refl (λ q. refl) _) ∙ ap ofTiled e in
-      (block-answer (blockOf s width column row) o (block-accepted s width height o out passed column row h k), block-stands s width height o out passed column row h k);
+      (block-answer (blockOf s width column row) o (block-accepted s width height o out passed column row h k), block-there s width height o out passed column row h k);
 }

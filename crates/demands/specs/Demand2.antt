@@ -12,7 +12,7 @@ use Rattle.options.specs.declared.Options.{Options}
 use Rattle.encode.specs.Encoder.{compressed}
 use Rattle.decode.specs.Meaning.{blockIndex}
 use Rattle.decode.specs.Exact.{exactNum, exactDen, Close}
-use Rattle.place.specs.Place.{along, blockAt, blockOf}
+use Rattle.place.specs.Place.{along, bc4Size, blockAt, blockOf}
 use Rattle.refusal.specs.declared.Checked.the-variants.{Passed}
 use Rattle.bc4.specs.declared.Encoded.the-variants.{Block}
 use Rattle.bc4.specs.declared.Tiled.the-variants.{Written}
@@ -30,4 +30,4 @@ pub record Demand2 : Type 0 where
   pub tiled : (samples : List Float) (width height : ℕ) (o : Options) (out : List ℕ) (n : ℕ) → tileAnswer samples width height (length out) ≡ Written n
       → (column row : ℕ) → column < along width → row < along height
       → (encodeAnswer (blockOf samples width column row) o ≡ Block (compressed (blockOf samples width column row) o))
-      × (take 8 (drop (blockAt width column row) (outAfter (Written n) samples width height o out)) ≡ bytesOf (compressed (blockOf samples width column row) o))
+      × (take bc4Size (drop (blockAt bc4Size width column row) (outAfter (Written n) samples width height o out)) ≡ bytesOf (compressed (blockOf samples width column row) o))

@@ -5,7 +5,7 @@ use mathlib.Core.List.{List}
 use Prim.Native.Nat.{ℕ, _/_, _%_, _^_}
 use lib.Ieee.{Float}
 use Rattle.index_list.specs.Layout.{bytesOf}
-use Rattle.place.specs.Place.{blockAt}
+use Rattle.place.specs.Place.{bc4Size, blockAt}
 use Rattle.refusal.specs.declared.Checked.{Checked}
 use Rattle.bc4.specs.declared.word.Word.{Word}
 use Rattle.bc4.specs.declared.Encoded.{Encoded}
@@ -68,4 +68,4 @@ writtenAfter (NotTiled q) before = before
 
 -- ---- block view
 abbrev pub offsetAfter : Checked → ℕ → ℕ → ℕ → ℕ → ℕ
-offsetAfter checked width column row before = answered (λ q. before) (blockAt width column row) checked
+offsetAfter checked width column row before = answered (λ q. before) (blockAt bc4Size width column row) checked

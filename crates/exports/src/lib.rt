@@ -179,7 +179,7 @@ pub extern "C" fn bc4_block_view(
     match checked {
         Checked::Refused(q) => refused(q, detail),
         Checked::Passed => {
-            *offset = place::block_at(width, column, row);
+            *offset = place::block_at(place::BC4_SIZE, width, column, row);
             0
         }
     }

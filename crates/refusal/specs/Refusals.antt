@@ -7,7 +7,7 @@ use lib.Dec.{ltb, eqb}
 use lib.ListN.{length}
 use lib.Ieee.{Float, isNan}
 use Rattle.options.specs.declared.Options.{Options}
-use Rattle.place.specs.Place.{badSize, noBlock, encodedLength}
+use Rattle.place.specs.Place.{badSize, noBlock, bc4Size, encodedLength}
 use Rattle.refusal.specs.declared.Refusal.{Refusal}
 use Rattle.refusal.specs.declared.Refusal.the-variants.{Size, SampleCount, EncodedLength, OutputLength, DitheredResend, NoSuchBlock, SampleIsNan, WordMalformed}
 use Rattle.refusal.specs.declared.Checked.{Checked}
@@ -86,23 +86,23 @@ abbrev pub encodeChecks : List Float → List Check
 encodeChecks samples = countCheck samples 16 ∷ nanCheck samples ∷ []
 
 abbrev pub decodeChecks : List ℕ → List Check
-decodeChecks encoded = lengthCheck (length encoded) 8 ∷ []
+decodeChecks encoded = lengthCheck (length encoded) bc4Size ∷ []
 
 abbrev pub errorChecks : List Float → List ℕ → List Check
-errorChecks samples encoded = countCheck samples 16 ∷ lengthCheck (length encoded) 8 ∷ nanCheck samples ∷ []
+errorChecks samples encoded = countCheck samples 16 ∷ lengthCheck (length encoded) bc4Size ∷ nanCheck samples ∷ []
 
 abbrev pub resendChecks : List Float → List ℕ → Options → List Check
-resendChecks samples held o = countCheck samples 16 ∷ lengthCheck (length held) 8 ∷ ditherCheck o ∷ nanCheck samples ∷ []
+resendChecks samples held o = countCheck samples 16 ∷ lengthCheck (length held) bc4Size ∷ ditherCheck o ∷ nanCheck samples ∷ []
 
 -- `room` is the length of the output
 abbrev pub tileChecks : List Float → ℕ → ℕ → ℕ → List Check
 tileChecks samples width height room =
-    sizeCheck width height ∷ countCheck samples (width * height) ∷ roomCheck room (encodedLength width height) ∷ nanCheck samples ∷ []
+    sizeCheck width height ∷ countCheck samples (width * height) ∷ roomCheck room (encodedLength bc4Size width height) ∷ nanCheck samples ∷ []
 
 -- `long` is the length of the tile
 abbrev pub viewChecks : ℕ → ℕ → ℕ → ℕ → ℕ → List Check
 viewChecks long width height column row =
-    sizeCheck width height ∷ lengthCheck long (encodedLength width height) ∷ placeCheck width height column row ∷ []
+    sizeCheck width height ∷ lengthCheck long (encodedLength bc4Size width height) ∷ placeCheck width height column row ∷ []
 
 -- a call's checks, and after all of them that of its options word
 abbrev pub andWord : List Check → Bool → List Check

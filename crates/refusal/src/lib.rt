@@ -104,7 +104,7 @@ pub fn encode(samples: &[f32]) -> Checked
 pub fn decode(encoded: &[u8]) -> Checked
     ensures { λ r. ⌜ r ≡ firstOf (decodeChecks (now (encoded .entry))) ⌝ }
 {
-    if encoded.len() != 8 {
+    if encoded.len() != place::BC4_SIZE {
         return Checked::Refused(Refusal::EncodedLength);
     }
     Checked::Passed
@@ -116,7 +116,7 @@ pub fn error(samples: &[f32], encoded: &[u8]) -> Checked
     if samples.len() != 16 {
         return Checked::Refused(Refusal::SampleCount);
     }
-    if encoded.len() != 8 {
+    if encoded.len() != place::BC4_SIZE {
         return Checked::Refused(Refusal::EncodedLength);
     }
     no_nan(samples)
@@ -128,7 +128,7 @@ pub fn resend(samples: &[f32], held: &[u8], o: Options) -> Checked
     if samples.len() != 16 {
         return Checked::Refused(Refusal::SampleCount);
     }
-    if held.len() != 8 {
+    if held.len() != place::BC4_SIZE {
         return Checked::Refused(Refusal::EncodedLength);
     }
     if o.dither {
@@ -148,7 +148,7 @@ pub fn tile(samples: &[f32], width: usize, height: usize, room: usize) -> Checke
     if samples.len() != area {
         return Checked::Refused(Refusal::SampleCount);
     }
-    if room < area / 2 {
+    if room < place::encoded_length(place::BC4_SIZE, width, height) {
         return Checked::Refused(Refusal::OutputLength);
     }
     no_nan(samples)
@@ -160,7 +160,7 @@ pub fn view(tile: &[u8], width: usize, height: usize, column: usize, row: usize)
     if place::bad_size(width, height) {
         return Checked::Refused(Refusal::Size);
     }
-    if tile.len() != width * height / 2 {
+    if tile.len() != place::encoded_length(place::BC4_SIZE, width, height) {
         return Checked::Refused(Refusal::EncodedLength);
     }
     if (column >= width / 4) | (row >= height / 4) {

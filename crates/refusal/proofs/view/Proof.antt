@@ -13,20 +13,20 @@ returns : tie.Need-returns
 unfolding firstOf
 returns c = rw (← c .before .bad-size .ensures, c .if1 .taken)
 
-mul-if2 : tie.Need-mul-if2
-mul-if2 c = let small = size-small _ _ (sym (c .before .bad-size .ensures) ∙ c .if1 .left) in search needs
+encoded-length-requires : tie.Need-encoded-length-requires
+encoded-length-requires c κs = let small = size-small _ _ (sym (c .before .bad-size .ensures) ∙ c .if1 .left) in search needs
 
 returns-2 : tie.Need-returns-2
 unfolding firstOf
-returns-2 c = rw (← c .before .before .bad-size .ensures, c .before .if1 .left, ne-eqb _ _ (c .if2 .taken))
+returns-2 c = rw (← c .before .before .before .bad-size .ensures, c .before .before .if1 .left, ← c .before .encoded-length .ensures, ne-eqb _ _ (c .if2 .taken))
 
 returns-3 : tie.Need-returns-3
 unfolding firstOf
-returns-3 c = rw (← c .before .before .before .bad-size .ensures, c .before .before .if1 .left, eq-eqb _ _ (c .before .if2 .left), c .if3 .taken)
+returns-3 c = rw (← c .before .before .before .before .bad-size .ensures, c .before .before .before .if1 .left, ← c .before .before .encoded-length .ensures, eq-eqb _ _ (c .before .if2 .left), c .if3 .taken)
 
 returns-4 : tie.Need-returns-4
 unfolding firstOf
-returns-4 c = rw (← c .before .before .before .bad-size .ensures, c .before .before .if1 .left, eq-eqb _ _ (c .before .if2 .left), c .if3 .left)
+returns-4 c = rw (← c .before .before .before .before .bad-size .ensures, c .before .before .before .if1 .left, ← c .before .before .encoded-length .ensures, eq-eqb _ _ (c .before .if2 .left), c .if3 .left)
 
 pub view-spec : {M : Type 1} → statement M
-view-spec = tie.close (tie.spec bad-size-requires returns mul-if2 returns-2 returns-3 returns-4)
+view-spec = tie.close (tie.spec bad-size-requires returns encoded-length-requires returns-2 returns-3 returns-4)
