@@ -2,7 +2,7 @@ use mathlib.Core.Path.{_≡_, sym, _∙_}
 use Prim.Native.Nat.{_+_, _-_}
 use native.Mathlib.Omega.{arith}
 use Rattle.place.specs.Place.{blockAt}
-use Rattle.refusal.proofs.Views.{view-room}
+use Rattle.refusal.proofs.Views.{Within, view-room}
 use borrow.Author.Needs.{needs}
 use Rattle.bc4.proofs.block_view.Statement.{statement}
 use Rattle.bc4.proofs.block_view.Tie as tie
@@ -25,19 +25,16 @@ part-result-end c = search needs
 enum-told-2 : tie.Need-enum-told-2
 enum-told-2 c = search needs
 
-block-at-requires : tie.Need-block-at-requires
-block-at-requires c κs =
-    let t = c in
+within : (t : tie.After-enum-told2) → let a = t .before .before .before .before .args in Within (a .tile .now) (a .width) (a .column) (a .row)
+within t =
     let a = t .before .before .before .before .args in
-    let room = view-room (a .tile .now) (a .width) (a .height) (a .column) (a .row) (sym (t .before .before .view-refusal .ensures) ∙ t .enum-told2 .given .1) in
-    search needs
+    view-room (a .tile .now) (a .width) (a .height) (a .column) (a .row) (sym (t .before .before .view-refusal .ensures) ∙ t .enum-told2 .given .1)
+
+block-at-requires : tie.Need-block-at-requires
+block-at-requires c κs = let room = within c in search needs
 
 add-result : tie.Need-add-result
-add-result c =
-    let t = c .before in
-    let a = t .before .before .before .before .args in
-    let room = view-room (a .tile .now) (a .width) (a .height) (a .column) (a .row) (sym (t .before .before .view-refusal .ensures) ∙ t .enum-told2 .given .1) in
-    search needs
+add-result c = let room = within (c .before) in search needs
 
 sub-result-2 : tie.Need-sub-result-2
 sub-result-2 c = search needs
@@ -46,11 +43,7 @@ part-result-start-2 : tie.Need-part-result-start-2
 part-result-start-2 c = search needs
 
 part-result-end-2 : tie.Need-part-result-end-2
-part-result-end-2 c =
-    let t = c .before in
-    let a = t .before .before .before .before .args in
-    let room = view-room (a .tile .now) (a .width) (a .height) (a .column) (a .row) (sym (t .before .before .view-refusal .ensures) ∙ t .enum-told2 .given .1) in
-    search needs
+part-result-end-2 c = let room = within (c .before) in search needs
 
 returns : tie.Need-returns
 returns c = rw (← c .before .before .before .view-refusal .ensures, c .before .enum-told .given .1)
