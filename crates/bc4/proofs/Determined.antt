@@ -1,12 +1,14 @@
 -- A promise leaves no choice: two outcomes that a call's contract allows, of one call, are equal. `Post` of a call is its contract as the checker
 -- reads it, over the arguments, the result, and what lent memory holds at the end.
-use mathlib.Core.Path.{_≡_, sym, ap, _∙_}
+use mathlib.Core.Path.{_≡_, sym, _∙_}
 use mathlib.Core.List.{List}
 use Prim.Native.Nat.{ℕ}
 use borrow.Fn.Kinds.{PK, RK, Out, Dens, resT, endedOf}
 use contract.Lifetimes.{Lfts}
 use denote.Triple.Clauses.{AtExit}
-use Rattle.bc4.specs.Calls.{samplesAfter, outAfter}
+use lib.Ieee.{Float}
+use Rattle.refusal.specs.declared.Checked.{Checked}
+use Rattle.bc4.specs.declared.Tiled.{Tiled}
 use Rattle.bc4.proofs.encode_block.Kinds as encode-block-kinds
 use Rattle.bc4.proofs.encode_block.Reads as encode-block
 use Rattle.bc4.proofs.block_error.Kinds as block-error-kinds
@@ -38,9 +40,10 @@ module _ (n : ℕ) (ps : List (PK n)) (r : RK n) (post : Out n ps r) where
   abbrev pub One-answer : Type 0
   One-answer = (κs : Lfts n) (a : Dens κs ps) (x y : resT r κs .Denot) (s t : AtExit (endedOf n ps r) κs) → post κs a x s → post κs a y t → x ≡ y
 
-  -- a part of what lent memory holds
-  abbrev pub One-end : {A : Type 0} → ((κs : Lfts n) → AtExit (endedOf n ps r) κs → A) → Type 0
-  One-end part = (κs : Lfts n) (a : Dens κs ps) (x y : resT r κs .Denot) (s t : AtExit (endedOf n ps r) κs) → post κs a x s → post κs a y t → part κs s ≡ part κs t
+  -- the answer, and what lent memory holds
+  abbrev pub One-outcome : (A : Type 0) → ((κs : Lfts n) → resT r κs .Denot → AtExit (endedOf n ps r) κs → A) → Type 0
+  One-outcome A outcome =
+      (κs : Lfts n) (a : Dens κs ps) (x y : resT r κs .Denot) (s t : AtExit (endedOf n ps r) κs) → post κs a x s → post κs a y t → outcome κs x s ≡ outcome κs y t
 
 pub encode-determined : One-answer 1 encode-block-kinds.ps encode-block-kinds.r encode-block.Post
 encode-determined κs a x y s t p q = p ∙ sym q
@@ -61,19 +64,12 @@ pub number-determined : One-answer 0 number-kinds.ps number-kinds.r number.Post
 number-determined κs a x y s t p q = p ∙ sym q
 
 -- decode: the answer, and the sixteen samples
-pub decode-determined : One-answer 2 decode-block-kinds.ps decode-block-kinds.r decode-block.Post
-decode-determined κs a x y s t p q = p .0 ∙ sym (q .0)
-
-pub decode-samples-determined : One-end 2 decode-block-kinds.ps decode-block-kinds.r decode-block.Post (λ κs s. s .1 .1 .0 .now)
-decode-samples-determined κs a x y s t p q = p .1 ∙ ap (λ z. samplesAfter z (a .0 .now) (a .1 .0) (a .1 .1 .0 .now)) (p .0 ∙ sym (q .0)) ∙ sym (q .1)
+pub decode-determined : One-outcome 2 decode-block-kinds.ps decode-block-kinds.r decode-block.Post (Checked × List Float) (λ κs x s. (x, s .1 .1 .0 .now))
+decode-determined κs a x y s t p q = cc
 
 -- encode tile: the answer, and every byte of the output
-pub tile-determined : One-answer 2 encode-tile-kinds.ps encode-tile-kinds.r encode-tile.Post
-tile-determined κs a x y s t p q = p .0 ∙ sym (q .0)
-
-pub tile-bytes-determined : One-end 2 encode-tile-kinds.ps encode-tile-kinds.r encode-tile.Post (λ κs s. s .1 .1 .1 .1 .0 .now)
-tile-bytes-determined κs a x y s t p q =
-    p .1 ∙ ap (λ z. outAfter z (a .0 .now) (a .1 .0) (a .1 .1 .0) (a .1 .1 .1 .0) (a .1 .1 .1 .1 .0 .now)) (p .0 ∙ sym (q .0)) ∙ sym (q .1)
+pub tile-determined : One-outcome 2 encode-tile-kinds.ps encode-tile-kinds.r encode-tile.Post (Tiled × List ℕ) (λ κs x s. (x, s .1 .1 .1 .1 .0 .now))
+tile-determined κs a x y s t p q = cc
 
 -- a word, and the same calls with one for the options
 pub word-read-determined : One-answer 0 word-read-kinds.ps word-read-kinds.r word-read.Post
@@ -85,14 +81,9 @@ word-encode-determined κs a x y s t p q = p ∙ sym q
 pub word-resend-determined : One-answer 2 word-resend-kinds.ps word-resend-kinds.r word-resend.Post
 word-resend-determined κs a x y s t p q = p ∙ sym q
 
-pub word-tile-determined : One-answer 2 word-encode-tile-kinds.ps word-encode-tile-kinds.r word-encode-tile.Post
-word-tile-determined κs a x y s t p q = p .0 ∙ sym (q .0)
-
-pub word-tile-bytes-determined : One-end 2 word-encode-tile-kinds.ps word-encode-tile-kinds.r word-encode-tile.Post (λ κs s. s .1 .1 .1 .1 .0 .now)
-word-tile-bytes-determined κs a x y s t p q =
-    p .1 ∙ ap (λ z. outAfter z (a .0 .now) (a .1 .0) (a .1 .1 .0) (a .1 .1 .1 .0 .options) (a .1 .1 .1 .1 .0 .now)) (p .0 ∙ sym (q .0)) ∙ sym (q .1)
+pub word-tile-determined : One-outcome 2 word-encode-tile-kinds.ps word-encode-tile-kinds.r word-encode-tile.Post (Tiled × List ℕ) (λ κs x s. (x, s .1 .1 .1 .1 .0 .now))
+word-tile-determined κs a x y s t p q = cc
 
 -- block view: the bytes of the part. Which part it is, where two blocks of a tile are alike, the contract of a slice does not say.
-pub view-determined : (κs : Lfts 1) (a : Dens κs block-view-kinds.ps) (x y : resT block-view-kinds.r κs .Denot) (s t : AtExit (endedOf 1 block-view-kinds.ps block-view-kinds.r) κs)
-    → block-view.Post κs a x s → block-view.Post κs a y t → x .now ≡ y .now
+pub view-determined : One-outcome 1 block-view-kinds.ps block-view-kinds.r block-view.Post (List ℕ) (λ κs x s. x .now)
 view-determined κs a x y s t p q = p ∙ sym q

@@ -13,12 +13,11 @@ use Rattle.index_list.proofs.ReadBack.{bytes-all, bytes-from}
 use Rattle.options.specs.declared.Options.{Options}
 use Rattle.decode.specs.BlockError.{blockError}
 use Rattle.decode.proofs.Laws.{error-of-bytes}
-use Rattle.refusal.specs.declared.Checked.{Checked}
-use Rattle.refusal.specs.declared.Checked.the-variants.{Passed, Refused}
-use Rattle.refusal.specs.Refusals.{firstOf, answered, resendChecks}
-use Rattle.refusal.proofs.Firsts.{first-clear, same-of}
+use Rattle.refusal.specs.declared.Checked.the-variants.{Passed}
+use Rattle.refusal.specs.Refusals.{firstOf, resendChecks}
+use Rattle.refusal.proofs.Firsts.{answered-cases, first-clear, same-of}
 use Rattle.bc4.specs.declared.Kept.{Kept}
-use Rattle.bc4.specs.declared.Resent.the-variants.{Block as Answered, Refused as NotResent}
+use Rattle.bc4.specs.declared.Resent.the-variants.{Block as Answered}
 use Rattle.bc4.specs.Calls.{betterOf, resendAnswer}
 use Rattle.bc4.proofs.Resends.{stays-or-replaced}
 use Rattle.demands.specs.Demand1.{Iff}
@@ -30,38 +29,31 @@ module _ (s : List Float) (held : List ℕ) (all : AllBytes held) (o : Options) 
   held-back passed = bytes-from held (same-of _ _ (first-clear (resendChecks s held o) passed .1 .0)) all
 
   one-resend : StaysOrBetter (o .snorm) s held (heldAfter held (resendAnswer s held o))
-  one-resend = go (firstOf (resendChecks s held o)) refl
-    where
-      go : (c : Checked) → firstOf (resendChecks s held o) ≡ c → StaysOrBetter (o .snorm) s held (heldAfter held (answered NotResent (Answered (betterOf s (fromBytes held) o)) c))
-      go (Refused q) e = inl refl
-      go Passed e =
-          elim (stays-or-replaced s (fromBytes held) o) [
-            | inl x ↦ inl (rw (x .0) (held-back e))
-            | inr y ↦ inr (rw (error-of-bytes (o .snorm) s (betterOf s (fromBytes held) o .block)) (y .2))
-          ]
+  one-resend =
+      answered-cases (λ r. StaysOrBetter (o .snorm) s held (heldAfter held r)) (firstOf (resendChecks s held o)) (λ q e. inl refl)
+      (λ e.
+      elim (stays-or-replaced s (fromBytes held) o) [
+        | inl x ↦ inl (rw (x .0) (held-back e))
+        | inr y ↦ inr (rw (error-of-bytes (o .snorm) s (betterOf s (fromBytes held) o .block)) (y .2))
+      ])
 
   next-bytes : AllBytes (heldAfter held (resendAnswer s held o))
-  next-bytes = go (firstOf (resendChecks s held o))
-    where
-      go : (c : Checked) → AllBytes (heldAfter held (answered NotResent (Answered (betterOf s (fromBytes held) o)) c))
-      go (Refused q) = all
-      go Passed = bytes-all (betterOf s (fromBytes held) o .block)
+  next-bytes = answered-cases (λ r. AllBytes (heldAfter held r)) (firstOf (resendChecks s held o)) (λ q e. all) (λ e. bytes-all (betterOf s (fromBytes held) o .block))
 
   pub flag-right : (h : Kept) → resendAnswer s held o ≡ Answered h → Iff (h .fresh ≡ true) (bytesOf (h .block) ≡ held → ⊥)
-  flag-right h = go (firstOf (resendChecks s held o)) refl
-    where
-      go : (c : Checked) → firstOf (resendChecks s held o) ≡ c → answered NotResent (Answered (betterOf s (fromBytes held) o)) c ≡ Answered h → Iff (h .fresh ≡ true) (bytesOf (h .block) ≡ held → ⊥)
-      go (Refused q) e r = let z : _≡_ {A = ℕ} 0 1 = cc in absurd (omega arith)
-      go Passed e r =
-          let same : betterOf s (fromBytes held) o ≡ h = cc in
-          rw (← same)
-          (elim (stays-or-replaced s (fromBytes held) o) [
-            | inl x ↦ (λ f. clash f (x .1), λ other. absurd (other (rw (x .0) (held-back e))))
-            | inr y ↦ (
-              λ f k. clash (y .2) (rw (← error-of-bytes (o .snorm) s (betterOf s (fromBytes held) o .block), k) (lt-irrefl _)),
-              λ other. y .1,
-            )
-          ])
+  flag-right h =
+      answered-cases (λ r. r ≡ Answered h → Iff (h .fresh ≡ true) (bytesOf (h .block) ≡ held → ⊥)) (firstOf (resendChecks s held o))
+      (λ q e r. let z : _≡_ {A = ℕ} 0 1 = cc in absurd (omega arith))
+      (λ e r.
+      let same : betterOf s (fromBytes held) o ≡ h = cc in
+      rw (← same)
+      (elim (stays-or-replaced s (fromBytes held) o) [
+        | inl x ↦ (λ f. clash f (x .1), λ other. absurd (other (rw (x .0) (held-back e))))
+        | inr y ↦ (
+          λ f k. clash (y .2) (rw (← error-of-bytes (o .snorm) s (betterOf s (fromBytes held) o .block), k) (lt-irrefl _)),
+          λ other. y .1,
+        )
+      ]))
 
 stays-trans : (snorm : Bool) (s : List Float) (l m n : List ℕ) → StaysOrBetter snorm s l m → StaysOrBetter snorm s m n → StaysOrBetter snorm s l n
 stays-trans snorm s l m n (inl p) q = subst (λ (x : List ℕ). StaysOrBetter snorm s x n) p q

@@ -18,6 +18,12 @@ refuses (Refused q) = Unit {0}
 pub apart : {q : Refusal} → Refused q ≡ Passed → ⊥
 apart e = subst refuses e tt
 
+-- What a call answers, by cases: refused, or passed.
+pub answered-cases : {A : Type 0} (P : A → Type 0) {refused : Refusal → A} {value : A} (c : Checked) → ((q : Refusal) → c ≡ Refused q → P (refused q)) → (c ≡ Passed → P value)
+    → P (answered refused value c)
+answered-cases P Passed r p = p refl
+answered-cases P (Refused q) r p = r q refl
+
 -- An answer refuses as its checks do, where `of` reads the refusal back.
 module _ {A : Type 0} (of : A → Checked) (refused : Refusal → A) (value : A) (passed : of value ≡ Passed) (back : (q : Refusal) → of (refused q) ≡ Refused q) where
   pub refusal-of : (c : Checked) → of (answered refused value c) ≡ c
