@@ -6,10 +6,9 @@ ghost use lib.ListN.{getD};
 ghost use lib.Ieee.{nan};
 ghost use Rattle.floats.specs.Arithmetic.{_⊕_, _⊗_};
 ghost use Rattle.block.specs.Samples.{pixelAt};
-ghost use Rattle.index_list.specs.Indexes.{indexAt};
 ghost use Rattle.palette.specs.Rules.{closestOf};
 ghost use Rattle.bcn_util.specs.Diffusion.{weights, given, diffused};
-ghost use Rattle.bcn_util.specs.Dither.{withPixel, blockDither};
+ghost use Rattle.bcn_util.specs.Dither.{blockDither};
 use index_list::IndexList;
 use palette::Indexed;
 use palette::Kind;
@@ -83,30 +82,8 @@ fn asked(b: &[f32; 16], map: &[f32; 16], i: usize) -> f32
     b[i] + map[i]
 }
 
-// One pixel is done: its index and its squared error are taken up, and what it is off by goes to the pixels around it.
-fn pixel_done(
-    map: &mut [f32; 16],
-    w: &[f32; 20],
-    done: Indexed,
-    i: usize,
-    index: u8,
-    error: f32,
-    off: f32,
-) -> Indexed
-    requires { ⌜ (i < 16) × (now w ≡ weights) × (index < 8) × (indexAt (done .indexes .data) i ≡ 0) ⌝ }
-    ensures map { λ _. ⌜ now (map .exit) ≡ diffused (now (map .entry)) i off ⌝ }
-    ensures indexed { λ r. ⌜ r ≡ withPixel done i index error ⌝ }
-{
-    diffuse(map, w, i, off);
-    let list = done.indexes;
-    Indexed {
-        indexes: list.set(i, index),
-        error: done.error + error * error,
-    }
-}
-
-// Both palettes are made and one is used: all that a turn does stands in the arms, so that the compiler makes a loop for each kind.
-// Of six values the error goes without its sign's being cleared: it is only squared.
+// Both palettes are made and one is used. All that a turn does stands in the arms, so that the compiler makes a loop of each: with a part of it in
+// common, or in a function of its own, it does not.
 pub fn dither(kind: Kind, b: &[f32; 16], c0: f32, c1: f32) -> Indexed
     ensures { λ r. ⌜ r ≡ blockDither (closestOf kind c0 c1) (now (b .entry)) ⌝ }
 {
@@ -115,24 +92,29 @@ pub fn dither(kind: Kind, b: &[f32; 16], c0: f32, c1: f32) -> Indexed
     let w = WEIGHTS;
     let index_map = Inter6Palette::INDEX_MAP;
     let mut map = [0.0f32; 16];
-    let mut done = Indexed {
-        indexes: IndexList::new_empty(),
-        error: 0.0,
-    };
+    let mut list = IndexList::new_empty();
+    let mut total = 0.0f32;
     for i in 0..16usize {
         let pixel = asked(b, &map, i);
         match kind {
+            // The error goes without its sign's being cleared: it is only squared.
             Kind::Six => {
                 let c = six.closest(&index_map, pixel);
+                list = list.set(i, c.index);
                 let off = pixel - c.value;
-                done = pixel_done(&mut map, &w, done, i, c.index, off, off);
+                total = total + off * off;
+                diffuse(&mut map, &w, i, off);
             }
             Kind::Four => {
                 let c = four.closest(pixel);
-                let off = pixel - c.value;
-                done = pixel_done(&mut map, &w, done, i, c.index, c.error, off);
+                list = list.set(i, c.index);
+                total = total + c.error * c.error;
+                diffuse(&mut map, &w, i, pixel - c.value);
             }
         }
     }
-    done
+    Indexed {
+        indexes: list,
+        error: total,
+    }
 }

@@ -12,10 +12,10 @@ use Rattle.bcn_util.proofs.dither.dither.Statement.{statement}
 use Rattle.bcn_util.proofs.dither.dither.Tie as tie
 
 abbrev Inv-loop : tie.InvT-loop
-Inv-loop kind b c0 c1 six four w index-map map₀ done₀ i₀ map done i = (i ≤ 16) × Reached kind c0 c1 b i map done
+Inv-loop kind b c0 c1 six four w index-map map₀ list₀ total₀ i₀ map list total i = (i ≤ 16) × Reached kind c0 c1 b i map (record { indexes = list; error = total })
 
 abbrev μ-loop : tie.MeasureT-loop
-μ-loop kind b c0 c1 six four w index-map map₀ done₀ i₀ map done i = 16 - i
+μ-loop kind b c0 c1 six four w index-map map₀ list₀ total₀ i₀ map list total i = 16 - i
 
 new-requires : tie.Need-new-requires Inv-loop μ-loop
 new-requires c κs = search needs
@@ -39,12 +39,14 @@ enum-told c = search needs
 closest-requires : tie.Need-closest-requires Inv-loop μ-loop
 closest-requires c κs = search needs
 
-pixel-done-requires : tie.Need-pixel-done-requires Inv-loop μ-loop
+set-requires : tie.Need-set-requires Inv-loop μ-loop
+set-requires c κs =
+    let k = c .before .before .before .before in
+    (search needs, rw (c .closest .ensures) (closest6-lt _ _), reached-unset (k .before .before .before .loop .inv .1))
+
+diffuse-requires : tie.Need-diffuse-requires Inv-loop μ-loop
 unfolding weights
-pixel-done-requires c κs =
-    let k = c .before .before .before in
-    let s = k .before .before .before .before .before .before .before in
-    (search needs, refl, rw (k .closest .ensures) (closest6-lt _ _), reached-unset (s .loop .inv .1))
+diffuse-requires c κs = (search needs, refl)
 
 enum-told-2 : tie.Need-enum-told-2 Inv-loop μ-loop
 enum-told-2 c = search needs
@@ -52,12 +54,14 @@ enum-told-2 c = search needs
 closest-requires-2 : tie.Need-closest-requires-2 Inv-loop μ-loop
 closest-requires-2 c κs = search needs
 
-pixel-done-requires-2 : tie.Need-pixel-done-requires-2 Inv-loop μ-loop
-unfolding weights
-pixel-done-requires-2 c κs =
+set-requires-2 : tie.Need-set-requires-2 Inv-loop μ-loop
+set-requires-2 c κs =
     let k = c .before .before .before in
-    let s = k .before .before .before .before .before .before in
-    (search needs, refl, rw (k .closest2 .ensures) (closest4-lt _ _), reached-unset (s .loop .inv .1))
+    (search needs, rw (c .closest2 .ensures) (closest4-lt _ _), reached-unset (k .before .before .before .loop .inv .1))
+
+diffuse-requires-2 : tie.Need-diffuse-requires-2 Inv-loop μ-loop
+unfolding weights
+diffuse-requires-2 c κs = (search needs, refl)
 
 add-i : tie.Need-add-i Inv-loop μ-loop
 add-i c = search needs
@@ -70,11 +74,11 @@ loop-again c =
     let k = c .before in
     let s = k .before .before .before in
     let p = s .before .before in
-    let r = s .loop .inv .1 in (
+    let step = reached-step (s .loop .inv .1) in (
       search needs,
       ⊎-elim
-          (λ w. rw (w .8, w .9, w .7 .ensures .0, w .7 .ensures .1, k .asked .ensures) (reached-step r (w .3 .result) _ (rw (w .3 .ensures, k .asked .ensures, p .before .new .ensures, w .1 .given .1)) (rw (w .3 .ensures, k .asked .ensures) (closest6-squared _ _))))
-          (λ w. rw (w .7, w .8, w .6 .ensures .0, w .6 .ensures .1, k .asked .ensures) (reached-step r (w .2 .result) _ (rw (w .2 .ensures, k .asked .ensures, p .new2 .ensures, w .1 .given .1)) refl))
+          (λ w. rw (w .9, w .10, w .11, w .8 .ensures, w .4 .ensures, k .asked .ensures) (step (w .3 .result) _ (rw (w .3 .ensures, k .asked .ensures, p .before .new .ensures, w .1 .given .1)) (rw (w .3 .ensures, k .asked .ensures) (closest6-squared _ _))))
+          (λ w. rw (w .9, w .10, w .11, w .8 .ensures, w .3 .ensures, k .asked .ensures) (step (w .2 .result) _ (rw (w .2 .ensures, k .asked .ensures, p .new2 .ensures, w .1 .given .1)) refl))
           (c .match .came),
     )
 
@@ -96,10 +100,12 @@ dither-spec =
     asked-requires
     enum-told
     closest-requires
-    pixel-done-requires
+    set-requires
+    diffuse-requires
     enum-told-2
     closest-requires-2
-    pixel-done-requires-2
+    set-requires-2
+    diffuse-requires-2
     add-i
     loop-less
     loop-again
