@@ -18,8 +18,8 @@ use Rattle.block.proofs.Fill.{getD-tabulate}
 pub entered-unit : (s : List Float) → InUnit (entered s)
 unfolding entered
 entered-unit s = record {
-  from-0 = λ i h. rw (getD-tabulate (λ (k : ℕ). entryClamp (pixelAt s k)) nan 16 i h) (entry-from-0 (pixelAt s i));
-  to-1 = λ i h. rw (getD-tabulate (λ (k : ℕ). entryClamp (pixelAt s k)) nan 16 i h) (entry-to-1 (pixelAt s i));
+  from-0 = λ i h. rw getD-tabulate (entry-from-0 (pixelAt s i));
+  to-1 = λ i h. rw getD-tabulate (entry-to-1 (pixelAt s i));
 }
 
 -- ---- with a threshold above 0, and 1 less it below 1: where only 0 and 1 are present, the scan passes over all
