@@ -1,3 +1,4 @@
 pub mod Fill
 pub mod Extremes
 pub mod Laws
+pub mod Test
