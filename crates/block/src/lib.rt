@@ -8,11 +8,11 @@ use floats::Pair;
 pub fn from_raw(samples: &[f32; 16]) -> [f32; 16]
     ensures { λ r. ⌜ r ≡ entered (now (samples .entry)) ⌝ }
 {
-    let mut b = [0.0f32; 16];
+    let mut clamped = [0.0f32; 16];
     for i in 0..16usize {
-        b[i] = floats::entry_clamp(samples[i]);
+        clamped[i] = floats::entry_clamp(samples[i]);
     }
-    b
+    clamped
 }
 
 // ---- smallest and largest: one scan, which is told what it looks for. Where it is called that is constant, so that its tests fold.

@@ -14,7 +14,7 @@ use Rattle.floats.specs.Helpers.{absOf, byteOf}
 use Rattle.floats.proofs.WholePart.{trunc-capped}
 use Rattle.floats.proofs.Squares.{square-abs}
 use Rattle.block.specs.Samples.{pixelAt, tabulate, perPixel}
-use Rattle.block.specs.Orders.{rowDot, sumOfSquares}
+use Rattle.block.specs.Orders.{sumOfSquares}
 use Rattle.block.proofs.Fill.{getD-tabulate}
 use Rattle.index_list.specs.Indexes.{filledTo}
 use Rattle.index_list.proofs.Laws.{filled-same}
@@ -130,10 +130,10 @@ weight-above p x h =
 -- ---- a whole block
 -- what the code packs, by way of an array of sixteen indexes
 pub block-indexes : (k : List ℕ) (f : ℕ → ℕ) → k ≡ perPixel f → filledTo (λ i. getD k i 0) 16 ≡ filledTo f 16
-block-indexes k f e = filled-same _ f 16 (λ i h. rw e (getD-tabulate f 0 16 i h))
+block-indexes k f e = filled-same _ f 16 (λ i h. rw e (getD-tabulate f 0 h))
 
 pub indexes-below : (k : List ℕ) (f : ℕ → ℕ) → k ≡ perPixel f → ((i : ℕ) → f i < 8) → (i : ℕ) → i < 16 → getD k i 0 < 8
-indexes-below k f e small i h = rw (e, getD-tabulate f 0 16 i h) (small i)
+indexes-below k f e small i h = rw (e, getD-tabulate) (small i)
 
 abbrev indexed : ℕ → Float → Indexed
 indexed d total = record { indexes = record { «data» = d }; error = total }
@@ -150,12 +150,12 @@ unfolding rowCode filledTo
 rows-code p b = omega arith
 
 pub rows-sum : (p : Inter6Palette) (b : List Float) → f0 ⊕ rowSum p b 0 ⊕ rowSum p b 1 ⊕ rowSum p b 2 ⊕ rowSum p b 3 ≡ sumOfSquares (perPixel (λ i. off6 p (pixelAt b i)))
-unfolding rowSum sumOfSquares rowDot tabulate
+unfolding rowSum tabulate
 rows-sum p b = refl
 
 -- a square does not show the sign of an error
 pub sum-abs : (g : ℕ → Float) → sumOfSquares (perPixel g) ≡ sumOfSquares (perPixel (λ i. absOf (g i)))
-unfolding sumOfSquares rowDot tabulate
+unfolding tabulate
 sum-abs g = simp square-abs
 
 pub indexed-is : (list : IndexList) (error : Float) (d : ℕ) (total : Float) → list .«data» ≡ d → error ≡ total

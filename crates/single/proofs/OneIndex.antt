@@ -15,4 +15,4 @@ pub uniform-written : (rule : Float → Closest) (e : EndPoints) (v : Float) →
 uniform-written rule e v =
     ap (packed (e .c0) (e .c1))
     (filled-same (λ i. rule v .index) (λ i. rule (pixelAt (perPixel (λ i. v)) i) .index) 16
-    (λ k h. sym (ap (λ (x : Float). rule x .index) (getD-tabulate (λ i. v) nan 16 k h))))
+    (λ k h. sym (ap (λ (x : Float). rule x .index) (getD-tabulate (λ i. v) nan h))))

@@ -11,10 +11,10 @@ use Rattle.block.proofs.from_raw.Statement.{statement}
 use Rattle.block.proofs.from_raw.Tie as tie
 
 abbrev Inv-loop : tie.InvT-loop
-Inv-loop samples b₀ i₀ b i = Filled nan (λ (k : ℕ). entryClamp (pixelAt samples k)) 16 b i
+Inv-loop samples clamped₀ i₀ clamped i = Filled nan (λ (k : ℕ). entryClamp (pixelAt samples k)) 16 clamped i
 
 abbrev μ-loop : tie.MeasureT-loop
-μ-loop samples b₀ i₀ b i = 16 - i
+μ-loop samples clamped₀ i₀ clamped i = 16 - i
 
 loop-holds : tie.Need-loop-holds Inv-loop μ-loop
 loop-holds c = fill-start refl
@@ -28,11 +28,11 @@ element-copy-out-entry-clamp c = search needs
 entry-clamp-requires : tie.Need-entry-clamp-requires Inv-loop μ-loop
 entry-clamp-requires c κs = search needs
 
-mul-b : tie.Need-mul-b Inv-loop μ-loop
-mul-b c = search needs
+mul-clamped : tie.Need-mul-clamped Inv-loop μ-loop
+mul-clamped c = search needs
 
-array-write-b : tie.Need-array-write-b Inv-loop μ-loop
-array-write-b c = search needs
+array-write-clamped : tie.Need-array-write-clamped Inv-loop μ-loop
+array-write-clamped c = search needs
 
 add-i : tie.Need-add-i Inv-loop μ-loop
 add-i c = search needs
@@ -57,8 +57,8 @@ from-raw-spec =
     mul-entry-clamp
     element-copy-out-entry-clamp
     entry-clamp-requires
-    mul-b
-    array-write-b
+    mul-clamped
+    array-write-clamped
     add-i
     loop-less
     loop-again

@@ -1,6 +1,6 @@
 use mathlib.Core.Path.{refl, ap, _∙_}
 use mathlib.Core.List.{List}
-use Prim.Native.Nat.{ℕ, _≤_, _<_, _-_}
+use Prim.Native.Nat.{ℕ, _-_}
 use native.Mathlib.Omega.{arith}
 use lib.Ieee.{Float, nan}
 use borrow.Author.Needs.{needs}
@@ -20,13 +20,13 @@ abbrev off : List Float → List Float → ℕ → Float
 off colors b i = nearestTo colors (pixelAt b i) 6 .error
 
 abbrev Inv-loop : tie.InvT-loop
-Inv-loop self b k₀ e₀ i₀ k e i = (i ≤ 16) × Filled 0 (index (self .colors) b) 16 k i × Filled nan (off (self .colors) b) 16 e i
+Inv-loop self b k₀ e₀ i₀ k e i = Filled 0 (index (self .colors) b) 16 k i × Filled nan (off (self .colors) b) 16 e i
 
 abbrev μ-loop : tie.MeasureT-loop
 μ-loop self b k₀ e₀ i₀ k e i = 16 - i
 
 loop-holds : tie.Need-loop-holds Inv-loop μ-loop
-loop-holds c = (search needs, fill-start 0 _ 16 _ refl, fill-start nan _ 16 _ refl)
+loop-holds c = (fill-start refl, fill-start refl)
 
 mul-nearest : tie.Need-mul-nearest Inv-loop μ-loop
 mul-nearest c = search needs
@@ -56,22 +56,14 @@ loop-less : tie.Need-loop-less Inv-loop μ-loop
 loop-less c = search needs
 
 loop-again : tie.Need-loop-again Inv-loop μ-loop
-loop-again c =
-    let h = c .before .before .before in
-    let colors = h .before .args .self .colors in
-    let b = h .before .args .b .now in
-    let t = c .before .before .loop-test .taken in (
-      search needs,
-      fill-step 0 (index colors b) 16 (h .loop .k) (h .loop .i) (c .nearest .result .index) (h .loop .inv .1) t (rw (c .nearest .ensures) refl),
-      fill-step nan (off colors b) 16 (h .loop .e) (h .loop .i) (c .nearest .result .error) (h .loop .inv .2) t (rw (c .nearest .ensures) refl),
-    )
+loop-again c = let v = c .before .before .before .loop .inv in (fill-step (v .0) (search needs) (rw (c .nearest .ensures)), fill-step (v .1) (search needs) (rw (c .nearest .ensures)))
 
 indexes-requires : tie.Need-indexes-requires Inv-loop μ-loop
 indexes-requires c κs =
     let h = c .before .before in
     let colors = h .before .args .self .colors in
     let b = h .before .args .b .now in
-    let K = fill-end 0 (index colors b) 16 (h .loop .k) (h .loop .i) (h .loop .inv .1) (omega arith) in
+    let K = fill-end (h .loop .inv .0) (omega arith) in
     indexes-below (h .loop .k) (index colors b) K (λ i. nearest6-lt colors (pixelAt b i))
 
 sum-of-squares-requires : tie.Need-sum-of-squares-requires Inv-loop μ-loop
@@ -84,8 +76,8 @@ returns c =
     let h = n .before .before .before in
     let colors = h .before .args .self .colors in
     let b = h .before .args .b .now in
-    let K = fill-end 0 (index colors b) 16 (h .loop .k) (h .loop .i) (h .loop .inv .1) (omega arith) in
-    let E = fill-end nan (off colors b) 16 (h .loop .e) (h .loop .i) (h .loop .inv .2) (omega arith) in
+    let K = fill-end (h .loop .inv .0) (omega arith) in
+    let E = fill-end (h .loop .inv .1) (omega arith) in
     let I = n .indexes .ensures ∙ block-indexes (h .loop .k) (index colors b) K in
     let S = c .sum-of-squares .ensures ∙ ap sumOfSquares E in
     indexed-is (n .indexes .result) (c .sum-of-squares .result) _ _ I S
