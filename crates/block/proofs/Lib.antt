@@ -2,4 +2,3 @@ pub mod Fill
 pub mod Lanes
 pub mod Extremes
 pub mod Laws
-pub mod Test

@@ -1,13 +1,12 @@
 -- bc4.rs, `Block`: the samples as they enter, their smallest and largest, their mean.
 use mathlib.Core.Path.{_≡_}
 use mathlib.Core.List.{List}
-use mathlib.Core.Bool.{true, cond, _||_}
+use mathlib.Core.Bool.{true, cond}
 use Prim.Native.Nat.{ℕ, _+_, _<_}
-use lib.Ieee.{Float, lt, le}
+use lib.Ieee.{Float, le}
 use Rattle.floats.specs.Arithmetic.{_⊖_, _⊗_, bits, f0, f1}
 use Rattle.floats.specs.Helpers.{laneMin, laneMax, entryClamp}
 use Rattle.floats.specs.declared.Pair.{Pair}
-use Rattle.block.specs.declared.Scan.{Scan}
 use Rattle.block.specs.Samples.{pixelAt, perPixel}
 use Rattle.block.specs.Orders.{downLane, downFrom, element, sumInPairs}
 
@@ -49,15 +48,18 @@ sixteenth = bits 0x3d80_0000
 abbrev pub mean : List Float → Float
 mean b = sumInPairs b ⊗ sixteenth
 
--- ---- the code's one scan
-abbrev pub further : Scan → Float → Float → Float
-further s a b = cond (cond (s .most) (lt b a) (lt a b)) a b
+-- ---- the code's scan, of the smallest and the largest as a pair
+abbrev pub joined : Pair → Pair → Pair
+joined a b = record { 0 = laneMin (a .0) (b .0); 1 = laneMax (a .1) (b .1) }
 
-abbrev pub step : Scan → Float → Float → Float
-step s m x = further s m (cond (s .all || cond (s .most) (le x (s .limit)) (le (s .limit) x)) x (s .edge))
+abbrev pub down : Float → Float → Float → Float → Pair
+down x y z w = let both : Float → Pair = λ v. record { 0 = v; 1 = v } in joined (joined (joined (both x) (both y)) (both z)) (both w)
 
-abbrev pub down : Scan → Float → Float → Float → Float → Float
-down s x y z w = step s (step s (step s (cond (s .all) x (step s (s .edge) x)) y) z) w
+abbrev pub step : Float → Pair → Float → Pair
+step threshold m x = joined m (record { 0 = cond (le threshold x) x f1; 1 = cond (le x (f1 ⊖ threshold)) x f0 })
 
-abbrev pub lane : List Float → Scan → ℕ → Float
-lane b s j = down s (pixelAt b j) (pixelAt b (j + 4)) (pixelAt b (j + 8)) (pixelAt b (j + 12))
+abbrev pub downWithin : Float → Float → Float → Float → Float → Pair
+downWithin threshold x y z w = let next = step threshold in next (next (next (next (record { 0 = f1; 1 = f0 }) x) y) z) w
+
+abbrev pub ofLane : (Float → Float → Float → Float → Pair) → List Float → ℕ → Pair
+ofLane f b j = f (pixelAt b j) (pixelAt b (j + 4)) (pixelAt b (j + 8)) (pixelAt b (j + 12))

@@ -1,8 +1,8 @@
 // bc4.rs: Block. The Rust's four Vec4 are sixteen floats here, pixel i in lane i % 4: a loop over them vectorises.
 ghost use mathlib.Core.Path.{_≡_};
 ghost use Prim.Native.Nat.{_<_};
-ghost use Rattle.block.specs.Orders.{element, sumInOrder, sumInPairs, sumOfSquares};
-ghost use Rattle.block.specs.Block.{entered, minMax, minMaxWithThreshold, mean as meanOf, further as furtherOf, step as stepOf, down as downOf, lane as laneOf};
+ghost use Rattle.block.specs.Orders.{sumInOrder, sumInPairs, sumOfSquares};
+ghost use Rattle.block.specs.Block.{entered, minMax, minMaxWithThreshold, mean as meanOf, joined as joinedOf, down as downOf, step as stepOf, downWithin, ofLane};
 use floats::Pair;
 
 pub fn from_raw(samples: &[f32; 16]) -> [f32; 16]
@@ -15,89 +15,82 @@ pub fn from_raw(samples: &[f32; 16]) -> [f32; 16]
     clamped
 }
 
-// ---- smallest and largest: one scan, which is told what it looks for. Where it is called that is constant, so that its tests fold.
+// ---- smallest and largest, as a pair
 
-struct Scan {
-    // the largest, else the smallest
-    most: bool,
-    // of all samples, else of those up to the limit: the scan starts from the edge, and a sample beyond the limit counts as that
-    all: bool,
-    limit: f32,
-    edge: f32,
-}
-
-fn further(s: Scan, a: f32, b: f32) -> f32
-    ensures { λ r. ⌜ r ≡ furtherOf s a b ⌝ }
+// The largest first: in the other order the compiler takes the two for a vector, and the scan with a threshold gets longer.
+fn joined(a: Pair, b: Pair) -> Pair
+    ensures { λ r. ⌜ r ≡ joinedOf a b ⌝ }
 {
-    floats::pick((!s.most & (a < b)) | (s.most & (a > b)), a, b)
+    let largest = floats::lane_max(a.1, b.1);
+    Pair(floats::lane_min(a.0, b.0), largest)
 }
 
-fn step(s: Scan, m: f32, x: f32) -> f32
-    ensures { λ r. ⌜ r ≡ stepOf s m x ⌝ }
+fn across(x: Pair, y: Pair, z: Pair, w: Pair) -> Pair
+    ensures { λ r. ⌜ r ≡ joinedOf x (joinedOf y (joinedOf z w)) ⌝ }
 {
-    let up_to = (!s.most & (x >= s.limit)) | (s.most & (x <= s.limit));
-    further(s, m, floats::pick(s.all | up_to, x, s.edge))
+    joined(x, joined(y, joined(z, w)))
 }
 
-fn down(s: Scan, x: f32, y: f32, z: f32, w: f32) -> f32
-    ensures { λ r. ⌜ r ≡ downOf s x y z w ⌝ }
+fn down(x: f32, y: f32, z: f32, w: f32) -> Pair
+    ensures { λ r. ⌜ r ≡ downOf x y z w ⌝ }
 {
-    let first = floats::pick(s.all, x, step(s, s.edge, x));
-    step(s, step(s, step(s, first, y), z), w)
+    joined(
+        joined(joined(Pair(x, x), Pair(y, y)), Pair(z, z)),
+        Pair(w, w),
+    )
 }
 
-fn lane(b: &[f32; 16], s: Scan, j: usize) -> f32
+fn lane(b: &[f32; 16], j: usize) -> Pair
     requires { ⌜ j < 4 ⌝ }
-    ensures { λ r. ⌜ r ≡ laneOf (now (b .entry)) s j ⌝ }
+    ensures { λ r. ⌜ r ≡ ofLane downOf (now (b .entry)) j ⌝ }
 {
-    down(s, b[j], b[j + 4], b[j + 8], b[j + 12])
-}
-
-fn extreme(b: &[f32; 16], s: Scan) -> f32
-    ensures { λ r. ⌜ r ≡ element (furtherOf s) (laneOf (now (b .entry)) s) ⌝ }
-{
-    let x = lane(b, s, 0);
-    let y = lane(b, s, 1);
-    let z = lane(b, s, 2);
-    let w = lane(b, s, 3);
-    further(s, x, further(s, y, further(s, z, w)))
+    down(b[j], b[j + 4], b[j + 8], b[j + 12])
 }
 
 pub fn min_max(b: &[f32; 16]) -> Pair
     ensures { λ r. ⌜ r ≡ minMax (now (b .entry)) ⌝ }
 {
-    let least = Scan {
-        most: false,
-        all: true,
-        limit: 0.0,
-        edge: 1.0,
-    };
-    let most = Scan {
-        most: true,
-        all: true,
-        limit: 1.0,
-        edge: 0.0,
-    };
-    Pair(extreme(b, least), extreme(b, most))
+    across(lane(b, 0), lane(b, 1), lane(b, 2), lane(b, 3))
+}
+
+// ---- with a threshold
+
+fn step(threshold: f32, m: Pair, x: f32) -> Pair
+    ensures { λ r. ⌜ r ≡ stepOf threshold m x ⌝ }
+{
+    joined(
+        m,
+        Pair(
+            floats::pick(x >= threshold, x, 1.0),
+            floats::pick(x <= 1.0 - threshold, x, 0.0),
+        ),
+    )
+}
+
+fn down_within(threshold: f32, x: f32, y: f32, z: f32, w: f32) -> Pair
+    ensures { λ r. ⌜ r ≡ downWithin threshold x y z w ⌝ }
+{
+    let upper = step(threshold, step(threshold, Pair(1.0, 0.0), x), y);
+    step(threshold, step(threshold, upper, z), w)
+}
+
+fn lane_within(b: &[f32; 16], threshold: f32, j: usize) -> Pair
+    requires { ⌜ j < 4 ⌝ }
+    ensures { λ r. ⌜ r ≡ ofLane (downWithin threshold) (now (b .entry)) j ⌝ }
+{
+    down_within(threshold, b[j], b[j + 4], b[j + 8], b[j + 12])
 }
 
 // Of the values in [threshold, 1 - threshold].
 pub fn min_max_with_threshold(b: &[f32; 16], threshold: f32) -> Pair
     ensures { λ r. ⌜ r ≡ minMaxWithThreshold (now (b .entry)) threshold ⌝ }
 {
-    let least = Scan {
-        most: false,
-        all: false,
-        limit: threshold,
-        edge: 1.0,
-    };
-    let most = Scan {
-        most: true,
-        all: false,
-        limit: 1.0 - threshold,
-        edge: 0.0,
-    };
-    Pair(extreme(b, least), extreme(b, most))
+    across(
+        lane_within(b, threshold, 0),
+        lane_within(b, threshold, 1),
+        lane_within(b, threshold, 2),
+        lane_within(b, threshold, 3),
+    )
 }
 
 // ---- sums

@@ -2,25 +2,17 @@ use borrow.Author.Needs.{needs}
 use Rattle.block.proofs.down.Statement.{statement}
 use Rattle.block.proofs.down.Tie as tie
 
-step-requires : tie.Need-step-requires
-step-requires c κs = search needs
+joined-requires : tie.Need-joined-requires
+joined-requires c κs = search needs
 
-pick-requires : tie.Need-pick-requires
-pick-requires c κs = search needs
+joined-requires-2 : tie.Need-joined-requires-2
+joined-requires-2 c κs = search needs
 
-step-requires-2 : tie.Need-step-requires-2
-step-requires-2 c κs = search needs
-
-step-requires-3 : tie.Need-step-requires-3
-step-requires-3 c κs = search needs
-
-step-requires-4 : tie.Need-step-requires-4
-step-requires-4 c κs = search needs
+joined-requires-3 : tie.Need-joined-requires-3
+joined-requires-3 c κs = search needs
 
 returns : tie.Need-returns
-returns c = cc
+returns c = rw (c .joined3 .ensures, c .before .joined2 .ensures, c .before .before .joined .ensures)
 
 pub down-spec : {M : Type 1} → statement M
-down-spec =
-    tie.close
-    (tie.spec step-requires pick-requires step-requires-2 step-requires-3 step-requires-4 returns)
+down-spec = tie.close (tie.spec joined-requires joined-requires-2 joined-requires-3 returns)

@@ -4,15 +4,34 @@ use borrow.Author.Needs.{needs}
 use Rattle.block.proofs.min_max_with_threshold.Statement.{statement}
 use Rattle.block.proofs.min_max_with_threshold.Tie as tie
 
-extreme-requires : tie.Need-extreme-requires
-extreme-requires c κs = search needs
+lane-within-requires : tie.Need-lane-within-requires
+lane-within-requires c κs = search needs
 
-extreme-requires-2 : tie.Need-extreme-requires-2
-extreme-requires-2 c κs = search needs
+lane-within-requires-2 : tie.Need-lane-within-requires-2
+lane-within-requires-2 c κs = search needs
+
+lane-within-requires-3 : tie.Need-lane-within-requires-3
+lane-within-requires-3 c κs = search needs
+
+lane-within-requires-4 : tie.Need-lane-within-requires-4
+lane-within-requires-4 c κs = search needs
+
+across-requires : tie.Need-across-requires
+across-requires c κs = search needs
 
 returns : tie.Need-returns
-unfolding element minMaxWithThreshold downFrom
-returns c = rw (c .extreme2 .ensures, c .before .extreme .ensures)
+unfolding minMaxWithThreshold element downFrom
+returns c =
+    let l = c .before in
+    rw (c .across .ensures, l .lane-within4 .ensures, l .before .lane-within3 .ensures, l .before .before .lane-within2 .ensures, l .before .before .before .lane-within .ensures)
 
 pub min-max-with-threshold-spec : {M : Type 1} → statement M
-min-max-with-threshold-spec = tie.close (tie.spec extreme-requires extreme-requires-2 returns)
+min-max-with-threshold-spec =
+    tie.close
+    (tie.spec
+    lane-within-requires
+    lane-within-requires-2
+    lane-within-requires-3
+    lane-within-requires-4
+    across-requires
+    returns)

@@ -1,5 +1,3 @@
-use lib.Ieee.{le}
-use Rattle.block.proofs.Test.{chosen-test}
 use borrow.Author.Needs.{needs}
 use Rattle.block.proofs.step.Statement.{statement}
 use Rattle.block.proofs.step.Tie as tie
@@ -7,13 +5,14 @@ use Rattle.block.proofs.step.Tie as tie
 pick-requires : tie.Need-pick-requires
 pick-requires c κs = search needs
 
-further-requires : tie.Need-further-requires
-further-requires c κs = search needs
+pick-requires-2 : tie.Need-pick-requires-2
+pick-requires-2 c κs = search needs
+
+joined-requires : tie.Need-joined-requires
+joined-requires c κs = search needs
 
 returns : tie.Need-returns
-returns c =
-    let a = c .before .before .before .before .before .before .before .args in
-    rw (c .further .ensures, c .before .pick .ensures, chosen-test (a .s .most) (le (a .s .limit) (a .x)) (le (a .x) (a .s .limit)))
+returns c = rw (c .joined .ensures, c .before .pick2 .ensures, c .before .before .pick .ensures)
 
 pub step-spec : {M : Type 1} → statement M
-step-spec = tie.close (tie.spec pick-requires further-requires returns)
+step-spec = tie.close (tie.spec pick-requires pick-requires-2 joined-requires returns)

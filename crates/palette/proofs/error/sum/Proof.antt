@@ -11,10 +11,10 @@ use Rattle.palette.proofs.error.sum.Statement.{statement}
 use Rattle.palette.proofs.error.sum.Tie as tie
 
 abbrev Inv-loop : tie.InvT-loop
-Inv-loop eight b e₀ i₀ e i = Filled nan (λ (k : ℕ). miss eight (pixelAt b k)) 16 e i
+Inv-loop eight b misses₀ i₀ misses i = Filled nan (λ (k : ℕ). miss eight (pixelAt b k)) 16 misses i
 
 abbrev μ-loop : tie.MeasureT-loop
-μ-loop eight b e₀ i₀ e i = 16 - i
+μ-loop eight b misses₀ i₀ misses i = 16 - i
 
 loop-holds : tie.Need-loop-holds Inv-loop μ-loop
 loop-holds c = fill-start refl
@@ -28,11 +28,11 @@ element-copy-out-miss c = search needs
 miss-requires : tie.Need-miss-requires Inv-loop μ-loop
 miss-requires c κs = search needs
 
-mul-e : tie.Need-mul-e Inv-loop μ-loop
-mul-e c = search needs
+mul-misses : tie.Need-mul-misses Inv-loop μ-loop
+mul-misses c = search needs
 
-array-write-e : tie.Need-array-write-e Inv-loop μ-loop
-array-write-e c = search needs
+array-write-misses : tie.Need-array-write-misses Inv-loop μ-loop
+array-write-misses c = search needs
 
 add-i : tie.Need-add-i Inv-loop μ-loop
 add-i c = search needs
@@ -59,8 +59,8 @@ sum-spec =
     mul-miss
     element-copy-out-miss
     miss-requires
-    mul-e
-    array-write-e
+    mul-misses
+    array-write-misses
     add-i
     loop-less
     loop-again
