@@ -1,3 +1,4 @@
 pub mod Fill
+pub mod Lanes
 pub mod Extremes
 pub mod Laws

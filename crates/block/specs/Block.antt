@@ -8,7 +8,7 @@ use Rattle.floats.specs.Arithmetic.{_⊖_, _⊗_, bits, f0, f1}
 use Rattle.floats.specs.Helpers.{laneMin, laneMax, entryClamp}
 use Rattle.floats.specs.declared.Pair.{Pair}
 use Rattle.block.specs.Samples.{pixelAt, perPixel}
-use Rattle.block.specs.Orders.{downLane, element, sumInPairs}
+use Rattle.block.specs.Orders.{downLane, downFrom, element, sumInPairs}
 
 -- Block::from_raw
 unfoldable pub entered : List Float → List Float
@@ -33,30 +33,33 @@ minMax b = record { 0 = smallest b; 1 = largest b }
 abbrev pub bc4MinValue : Float
 bc4MinValue = bits 0x3a12_dc01
 
--- With a threshold a sample below it counts as 1 for the minimum, and one above 1 - threshold as 0 for the maximum.
-unfoldable pub lowered : Float → List Float → Float → ℕ → Float
-lowered threshold b m i = laneMin m (cond (le threshold (pixelAt b i)) (pixelAt b i) f1)
-
-unfoldable pub raised : Float → List Float → Float → ℕ → Float
-raised threshold b m i = laneMax m (cond (le (pixelAt b i) (f1 ⊖ threshold)) (pixelAt b i) f0)
-
--- from a down lane j
-unfoldable pub scanLane : (Float → ℕ → Float) → Float → ℕ → Float
-scanLane step a j = step (step (step (step a j) (j + 4)) (j + 8)) (j + 12)
-
-unfoldable pub smallestAbove : Float → List Float → Float
-smallestAbove threshold b = element laneMin (scanLane (lowered threshold b) f1)
-
-unfoldable pub largestBelow : Float → List Float → Float
-largestBelow threshold b = element laneMax (scanLane (raised threshold b) f0)
-
--- Block::min_max_with_threshold: of the values in [threshold, 1 - threshold], the scan starting from 1 and from 0
-unfoldable pub minMaxWithThreshold : Float → List Float → Pair
-minMaxWithThreshold threshold b = record { 0 = smallestAbove threshold b; 1 = largestBelow threshold b }
+-- Block::min_max_with_threshold: of the values in [threshold, 1 - threshold]. A sample below it counts as 1 for the smallest, one above 1 - threshold
+-- as 0 for the largest, and the scan starts from 1 and from 0.
+unfoldable pub minMaxWithThreshold : List Float → Float → Pair
+minMaxWithThreshold b threshold = record {
+  0 = element laneMin (downFrom laneMin f1 (λ i. cond (le threshold (pixelAt b i)) (pixelAt b i) f1));
+  1 = element laneMax (downFrom laneMax f0 (λ i. cond (le (pixelAt b i) (f1 ⊖ threshold)) (pixelAt b i) f0));
+}
 
 -- 1.0 / 16.0
 abbrev pub sixteenth : Float
 sixteenth = bits 0x3d80_0000
 
-unfoldable pub mean : List Float → Float
+abbrev pub mean : List Float → Float
 mean b = sumInPairs b ⊗ sixteenth
+
+-- ---- the code's scan, of the smallest and the largest as a pair
+abbrev pub joined : Pair → Pair → Pair
+joined a b = record { 0 = laneMin (a .0) (b .0); 1 = laneMax (a .1) (b .1) }
+
+abbrev pub down : Float → Float → Float → Float → Pair
+down x y z w = let both : Float → Pair = λ v. record { 0 = v; 1 = v } in joined (joined (joined (both x) (both y)) (both z)) (both w)
+
+abbrev pub step : Float → Pair → Float → Pair
+step threshold m x = joined m (record { 0 = cond (le threshold x) x f1; 1 = cond (le x (f1 ⊖ threshold)) x f0 })
+
+abbrev pub downWithin : Float → Float → Float → Float → Float → Pair
+downWithin threshold x y z w = let next = step threshold in next (next (next (next (record { 0 = f1; 1 = f0 }) x) y) z) w
+
+abbrev pub ofLane : (Float → Float → Float → Float → Pair) → List Float → ℕ → Pair
+ofLane f b j = f (pixelAt b j) (pixelAt b (j + 4)) (pixelAt b (j + 8)) (pixelAt b (j + 12))

@@ -14,27 +14,31 @@ use Rattle.floats.specs.Arithmetic.{_⊕_, squared, f0}
 use Rattle.block.specs.Samples.{pixelAt}
 
 -- down lane j of what g gives for each pixel
-unfoldable pub downLane : (Float → Float → Float) → (ℕ → Float) → ℕ → Float
+abbrev pub downLane : (Float → Float → Float) → (ℕ → Float) → ℕ → Float
 downLane op g j = op (op (op (g j) (g (j + 4))) (g (j + 8))) (g (j + 12))
+
+-- the same from a
+unfoldable pub downFrom : (Float → Float → Float) → Float → (ℕ → Float) → ℕ → Float
+downFrom op a g j = op (op (op (op a (g j)) (g (j + 4))) (g (j + 8))) (g (j + 12))
 
 -- Vec4::min_element and max_element: x against (y against (z against w))
 unfoldable pub element : (Float → Float → Float) → (ℕ → Float) → Float
 element op lane = op (lane 0) (op (lane 1) (op (lane 2) (lane 3)))
 
-unfoldable pub laneSum : List Float → ℕ → Float
+abbrev pub laneSum : List Float → ℕ → Float
 laneSum e j = downLane _⊕_ (pixelAt e) j
 
 -- palette error: the lanes' sums as ((x + y) + z) + w
-unfoldable pub sumInOrder : List Float → Float
+abbrev pub sumInOrder : List Float → Float
 sumInOrder e = laneSum e 0 ⊕ laneSum e 1 ⊕ laneSum e 2 ⊕ laneSum e 3
 
 -- mean and least squares: (x + y) + (z + w)
-unfoldable pub sumInPairs : List Float → Float
+abbrev pub sumInPairs : List Float → Float
 sumInPairs e = (laneSum e 0 ⊕ laneSum e 1) ⊕ (laneSum e 2 ⊕ laneSum e 3)
 
 -- block totals: each row's dot product with itself, ((x² + y²) + z²) + w², and these from 0 down the rows
-unfoldable pub rowDot : List Float → ℕ → Float
+abbrev pub rowDot : List Float → ℕ → Float
 rowDot e i = squared (pixelAt e (4 * i)) ⊕ squared (pixelAt e (4 * i + 1)) ⊕ squared (pixelAt e (4 * i + 2)) ⊕ squared (pixelAt e (4 * i + 3))
 
-unfoldable pub sumOfSquares : List Float → Float
+abbrev pub sumOfSquares : List Float → Float
 sumOfSquares e = f0 ⊕ rowDot e 0 ⊕ rowDot e 1 ⊕ rowDot e 2 ⊕ rowDot e 3

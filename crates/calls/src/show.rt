@@ -66,9 +66,9 @@ pub fn float(x: f32) {
 }
 
 pub fn floats(x: &[f32; 16]) {
-    for i in 0..16usize {
+    for pixel in 0..16usize {
         text(b" ");
-        float(x[i]);
+        float(x[pixel]);
     }
 }
 

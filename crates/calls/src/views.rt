@@ -23,8 +23,7 @@ pub fn place(column: usize, row: usize) {
 }
 
 fn viewed(width: usize, height: usize, length: usize, column: usize, row: usize) {
-    let mut t = [0u8; 2056];
-    given::fill_bytes(&mut t);
+    let t = given::bytes();
     place(column, row);
     tiles::size(width, height);
     show::text(b", ");

@@ -16,7 +16,7 @@ use Rattle.block.proofs.Fill.{getD-tabulate}
 
 pixel-is : (s : List Float) (i : ℕ) → i < 16 → pixelAt (entered s) i ≡ entryClamp (pixelAt s i)
 unfolding entered
-pixel-is s i h = getD-tabulate (λ (k : ℕ). entryClamp (pixelAt s k)) nan 16 i h
+pixel-is s i h = rw getD-tabulate
 
 pub entered-one : (s : List Float) (i : ℕ) → i < 16 → le f1 (pixelAt (entered s) i) ≡ true → pixelAt (entered s) i ≡ f1
 entered-one s i h e = pixel-is s i h ∙ go (laneMax (pixelAt s i) f0) (lt (laneMax (pixelAt s i) f0) f1) refl (rw (pixel-is s i h) at e)

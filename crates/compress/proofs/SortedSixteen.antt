@@ -115,7 +115,7 @@ module _ (b : List Float) where
     places-counted : (x : Float) (n : ℕ) → n ≤ 16 → countTo (perPixel (placed b)) x n ≡ min n (notAbove b x)
     unfolding countTo
     places-counted x zero h = omega arith
-    places-counted x (suc n) h = rw (getD-tabulate (placed b) nan 16 n h, places-counted x n (omega arith), placed-le n h x) (one-up n (notAbove b x))
+    places-counted x (suc n) h = rw (getD-tabulate (placed b) nan h, places-counted x n (omega arith), placed-le n h x) (one-up n (notAbove b x))
 
     -- as many of them as of the samples are not above x, whatever x,
     pub placed-count : (x : Float) → notAbove (perPixel (placed b)) x ≡ notAbove b x

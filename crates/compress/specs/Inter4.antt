@@ -46,4 +46,4 @@ abbrev pub firstEnds : List Float → Bool → Pair → Pair
 firstEnds b reassign p = cond reassign (reassigned b p) p
 
 unfoldable pub compressInter4 : List Float → Options → Coded
-compressInter4 b o = coded Four b (o .snorm) (o .dither) (refinedEnds Four b (firstEnds b (o .«iter_initial_inter4») (minMaxWithThreshold bc4MinValue b)) o)
+compressInter4 b o = coded Four b (o .snorm) (o .dither) (refinedEnds Four b (firstEnds b (o .«iter_initial_inter4») (minMaxWithThreshold b bc4MinValue)) o)

@@ -13,7 +13,7 @@ use lib.Seq.{ext-getD}
 use Rattle.index_list.specs.Layout.{byteAt, bytesOf, fromBytes}
 use Rattle.index_list.proofs.Laws.{bits-low, from-bytesOf}
 use Rattle.block.specs.Samples.{pixelAt, perPixel}
-use Rattle.block.proofs.Fill.{length-tabulate, getD-tabulate}
+use Rattle.block.proofs.Fill.{length-tabulate, getD-tabulate, tabulated}
 use Rattle.values.specs.Values.{levelOf, levelValue}
 use Rattle.palette.specs.Palettes.{entry}
 use Rattle.decode.specs.Meaning.{isSix, eightOf, tableOf, blockIndex, picked, sampleAt, decoded}
@@ -25,7 +25,7 @@ errorTo-more s v k = rw add-one
 
 pub decoded-at : (snorm : Bool) (n i : ℕ) → i < 16 → pixelAt (decoded n snorm) i ≡ sampleAt snorm n i
 unfolding decoded
-decoded-at snorm n i h = getD-tabulate (sampleAt snorm n) nan 16 i h
+decoded-at snorm n i h = getD-tabulate (sampleAt snorm n) nan h
 
 -- What is picked of the eight values of a block's two levels, as floats, are its samples.
 pub picked-decoded : (snorm : Bool) (n l0 l1 : ℕ) (e eight : List Float) (six : Bool) → l0 ≡ levelOf (n % 256) snorm → l1 ≡ levelOf (n / 2 ^ 8 % 256) snorm
@@ -51,10 +51,7 @@ low-sample snorm n i h = rw (low-index n i h, bits-low n 0 8 64 (omega arith), b
 
 pub decoded-low : (snorm : Bool) (n : ℕ) → decoded (n % 2 ^ 64) snorm ≡ decoded n snorm
 unfolding decoded
-decoded-low snorm n =
-    ext-getD nan (perPixel (sampleAt snorm (n % 2 ^ 64))) (perPixel (sampleAt snorm n)) (length-tabulate _ 0 16 ∙ sym (length-tabulate _ 0 16))
-    (λ i h. let l : i < 16 = rw (length-tabulate (sampleAt snorm (n % 2 ^ 64)) 0 16) at h in
-    getD-tabulate (sampleAt snorm (n % 2 ^ 64)) nan 16 i l ∙ low-sample snorm n i l ∙ sym (getD-tabulate (sampleAt snorm n) nan 16 i l))
+decoded-low snorm n = tabulated nan (sampleAt snorm n) _ (length-tabulate (sampleAt snorm (n % 2 ^ 64)) 0 16) (λ i h. rw getD-tabulate (low-sample snorm n i h))
 
 -- So a block that was laid out in bytes is read as it was.
 pub error-of-bytes : (snorm : Bool) (s : List Float) (n : ℕ) → blockError s (fromBytes (bytesOf n)) snorm ≡ blockError s n snorm

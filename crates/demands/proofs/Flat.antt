@@ -8,7 +8,7 @@ use Rattle.floats.specs.Helpers.{absOf}
 use Rattle.floats.specs.declared.Pair.{Pair}
 use Rattle.end_points.specs.EndPoints.{ofBytes, closest}
 use Rattle.block.specs.Samples.{tabulate, perPixel}
-use Rattle.block.specs.Orders.{element, downLane}
+use Rattle.block.specs.Orders.{element}
 use Rattle.block.specs.Block.{entered, smallest, largest, minMax}
 use Rattle.values.specs.Values.{levelValue}
 use Rattle.index_list.specs.Indexes.{filledTo}
@@ -23,11 +23,11 @@ flat-encoded s o p e a b c = rw (e, a, b, c)
 
 -- blocks of 0 and of 1
 zeros : minMax (entered (perPixel (λ i. f0))) ≡ record { 0 = f0; 1 = f0 }
-unfolding entered minMax smallest largest element downLane tabulate ofBits lt
+unfolding entered minMax smallest largest element tabulate ofBits lt
 zeros = refl
 
 ones : minMax (entered (perPixel (λ i. f1))) ≡ record { 0 = f1; 1 = f1 }
-unfolding entered minMax smallest largest element downLane tabulate ofBits lt
+unfolding entered minMax smallest largest element tabulate ofBits lt
 ones = refl
 
 -- the search is unsigned

@@ -23,5 +23,5 @@ worked-values = record {
   value-9 = λ o e a. rw (flat-0 o e a);
   value-10 = λ o e a. rw (flat-1 o e a);
   value-11 = λ o e. rw (flat-signed-0 o e);
-  value-12 = λ b each. threshold-edges bc4MinValue b (unfold le in refl) (unfold le in refl) each;
+  value-12 = λ b each. threshold-edges b bc4MinValue (unfold le in refl) (unfold le in refl) each;
 }

@@ -45,7 +45,7 @@ abbrev pub fiveStart : List Float → Pair
 fiveStart b = fitted b (fitted b (five (nudgedPair b (minMax b))))
 
 abbrev pub fourStart : List Float → Options → Pair
-fourStart b o = firstEnds b (o .«iter_initial_inter4») (minMaxWithThreshold bc4MinValue b)
+fourStart b o = firstEnds b (o .«iter_initial_inter4») (minMaxWithThreshold b bc4MinValue)
 
 -- q is p, or a pair of strictly smaller palette error
 abbrev pub SameOrBetter : Kind → List Float → Pair → Pair → Type 0

@@ -49,4 +49,4 @@ pub record WorkedValues : Type 0 where
   -- 11: all 0, signed
   pub value-11 : (o : Options) → o .snorm ≡ true → bytesOf (compressed (perPixel (λ i. f0)) o) ≡ 0x81 ∷ 0x81 ∷ 0 ∷ 0 ∷ 0 ∷ 0 ∷ 0 ∷ 0 ∷ []
   -- 12: only 0.0 and 1.0 present, both
-  pub value-12 : (b : List Float) → ((i : ℕ) → i < 16 → (pixelAt b i ≡ f0) ⊎ (pixelAt b i ≡ f1)) → minMaxWithThreshold bc4MinValue b ≡ record { 0 = f1; 1 = f0 }
+  pub value-12 : (b : List Float) → ((i : ℕ) → i < 16 → (pixelAt b i ≡ f0) ⊎ (pixelAt b i ≡ f1)) → minMaxWithThreshold b bc4MinValue ≡ record { 0 = f1; 1 = f0 }

@@ -1,2 +1,1 @@
-pub mod LaneFill
 pub mod FitLaws

@@ -1,7 +1,7 @@
 -- One fit of `fitted` worked out lane by lane, where every blend is above -1: `lanes-fitted` in proofs/ says that the ends are the same.
 use mathlib.Core.List.{List, [], _∷_}
-use mathlib.Core.Bool.{Bool, true, _&&_}
-use Prim.Native.Nat.{ℕ, zero, suc, _+_}
+use mathlib.Core.Bool.{Bool, _&&_}
+use Prim.Native.Nat.{ℕ, _+_}
 use lib.Ieee.{Float, lt, neg}
 use Rattle.floats.specs.Arithmetic.{_⊕_, _⊖_, _⊗_, squared, f1}
 use Rattle.floats.specs.Helpers.{clampOf}
@@ -18,45 +18,43 @@ use Rattle.fit.specs.declared.Lane.{Lane}
 use Rattle.fit.specs.declared.Weighed.{Weighed}
 use Rattle.fit.specs.declared.Lanes.{Lanes}
 
--- ---- of pixel i
-abbrev pub weightAt : Inter6Palette → List Float → ℕ → Float
-weightAt p b i = cutWeight (blend p (pixelAt b i))
+-- ---- of a sample
+abbrev pub weightOf : Inter6Palette → Float → Float
+weightOf p x = cutWeight (blend p x)
 
-abbrev pub restAt : Inter6Palette → List Float → ℕ → Float
-restAt p b i = f1 ⊖ weightAt p b i
+abbrev pub restOf : Inter6Palette → Float → Float
+restOf p x = f1 ⊖ weightOf p x
 
-abbrev pub aboveAt : Inter6Palette → List Float → ℕ → Bool
-aboveAt p b i = lt (neg f1) (blend p (pixelAt b i))
+abbrev pub aboveOf : Inter6Palette → Float → Bool
+aboveOf p x = lt (neg f1) (blend p x)
 
--- ---- of lane j
-unfoldable pub laneOf : Inter6Palette → List Float → ℕ → Lane
-laneOf p b j = record {
-  w0 = weightAt p b j;
-  w1 = weightAt p b (j + 4);
-  w2 = weightAt p b (j + 8);
-  w3 = weightAt p b (j + 12);
-  ww = downLane _⊕_ (λ i. squared (weightAt p b i)) j;
-  wv = downLane _⊕_ (λ i. weightAt p b i ⊗ restAt p b i) j;
-  vv = downLane _⊕_ (λ i. squared (restAt p b i)) j;
-  above = ((aboveAt p b j && aboveAt p b (j + 4)) && aboveAt p b (j + 8)) && aboveAt p b (j + 12);
+-- ---- of four samples down a lane, and of lane j
+unfoldable pub laneOf : Inter6Palette → Float → Float → Float → Float → Lane
+laneOf p x0 x1 x2 x3 = record {
+  w0 = weightOf p x0;
+  w1 = weightOf p x1;
+  w2 = weightOf p x2;
+  w3 = weightOf p x3;
+  ww = squared (weightOf p x0) ⊕ squared (weightOf p x1) ⊕ squared (weightOf p x2) ⊕ squared (weightOf p x3);
+  wv = weightOf p x0 ⊗ restOf p x0 ⊕ weightOf p x1 ⊗ restOf p x1 ⊕ weightOf p x2 ⊗ restOf p x2 ⊕ weightOf p x3 ⊗ restOf p x3;
+  vv = squared (restOf p x0) ⊕ squared (restOf p x1) ⊕ squared (restOf p x2) ⊕ squared (restOf p x3);
+  above = aboveOf p x0 && aboveOf p x1 && aboveOf p x2 && aboveOf p x3;
 }
+
+abbrev pub laneAt : Inter6Palette → List Float → ℕ → Lane
+laneAt p b j = laneOf p (pixelAt b j) (pixelAt b (j + 4)) (pixelAt b (j + 8)) (pixelAt b (j + 12))
 
 -- one for each lane
 abbrev pub perLane : (ℕ → Float) → List Float
 perLane f = tabulate f 0 4
 
--- in the first j lanes
-unfoldable pub aboveTo : Inter6Palette → List Float → ℕ → Bool
-aboveTo p b zero = true
-aboveTo p b (suc j) = aboveTo p b j && laneOf p b j .above
-
 unfoldable pub weighed : Inter6Palette → List Float → Weighed
 weighed p b = record {
-  w = perPixel (weightAt p b);
-  ww = perLane (λ j. laneOf p b j .ww);
-  wv = perLane (λ j. laneOf p b j .wv);
-  vv = perLane (λ j. laneOf p b j .vv);
-  above = aboveTo p b 4;
+  w = perPixel (λ i. weightOf p (pixelAt b i));
+  ww = perLane (λ j. laneAt p b j .ww);
+  wv = perLane (λ j. laneAt p b j .wv);
+  vv = perLane (λ j. laneAt p b j .vv);
+  above = laneAt p b 0 .above && laneAt p b 1 .above && laneAt p b 2 .above && laneAt p b 3 .above;
 }
 
 -- ---- of the block: the lanes' sums as (x + y) + (z + w)
@@ -66,10 +64,10 @@ across s = (pixelAt s 0 ⊕ pixelAt s 1) ⊕ (pixelAt s 2 ⊕ pixelAt s 3)
 unfoldable pub matrix : Weighed → WeightMatrix
 matrix g = orMean (fromD (across (g .ww)) (across (g .wv)) (across (g .vv)))
 
-unfoldable pub lineLane : List Float → List Float → Float → Float → ℕ → Float
+abbrev pub lineLane : List Float → List Float → Float → Float → ℕ → Float
 lineLane b w e d j = downLane _⊕_ (λ i. pixelAt b i ⊗ (e ⊕ d ⊗ pixelAt w i)) j
 
-unfoldable pub lineLanes : List Float → List Float → Float → Float → List Float
+abbrev pub lineLanes : List Float → List Float → Float → Float → List Float
 lineLanes b w e d = lineLane b w e d 0 ∷ lineLane b w e d 1 ∷ lineLane b w e d 2 ∷ lineLane b w e d 3 ∷ []
 
 unfoldable pub fitLanes : List Float → Pair → Lanes

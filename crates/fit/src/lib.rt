@@ -3,7 +3,7 @@
 ghost use mathlib.Core.Path.{_≡_};
 ghost use Prim.Native.Nat.{_<_};
 ghost use Rattle.fit.specs.Fit.{fitted as fittedOf};
-ghost use Rattle.fit.specs.Lanes.{laneOf, weighed, across as acrossOf, lineLane, lineLanes, matrix as matrixOf, fitLanes, ends as endsOf};
+ghost use Rattle.fit.specs.Lanes.{laneOf, laneAt, weighed, across as acrossOf, lineLanes, matrix as matrixOf, fitLanes, ends as endsOf};
 use bcn_util::least_squares::WeightMatrix;
 use floats::Pair;
 use palette::inter6;
@@ -37,18 +37,17 @@ pub struct Lanes {
     pub above: bool,
 }
 
-fn weigh_lane(p: Inter6Palette, b: &[f32; 16], j: usize) -> Lane
-    requires { ⌜ j < 4 ⌝ }
-    ensures { λ r. ⌜ r ≡ laneOf p (now (b .entry)) j ⌝ }
+fn weigh_four(p: Inter6Palette, x0: f32, x1: f32, x2: f32, x3: f32) -> Lane
+    ensures { λ r. ⌜ r ≡ laneOf p x0 x1 x2 x3 ⌝ }
 {
-    let x0 = p.blend(b[j]);
-    let x1 = p.blend(b[j + 4]);
-    let x2 = p.blend(b[j + 8]);
-    let x3 = p.blend(b[j + 12]);
-    let w0 = inter6::cut_weight(x0);
-    let w1 = inter6::cut_weight(x1);
-    let w2 = inter6::cut_weight(x2);
-    let w3 = inter6::cut_weight(x3);
+    let b0 = p.blend(x0);
+    let b1 = p.blend(x1);
+    let b2 = p.blend(x2);
+    let b3 = p.blend(x3);
+    let w0 = inter6::cut_weight(b0);
+    let w1 = inter6::cut_weight(b1);
+    let w2 = inter6::cut_weight(b2);
+    let w3 = inter6::cut_weight(b3);
     let v0 = 1.0 - w0;
     let v1 = 1.0 - w1;
     let v2 = 1.0 - w2;
@@ -61,35 +60,47 @@ fn weigh_lane(p: Inter6Palette, b: &[f32; 16], j: usize) -> Lane
         ww: w0 * w0 + w1 * w1 + w2 * w2 + w3 * w3,
         wv: w0 * v0 + w1 * v1 + w2 * v2 + w3 * v3,
         vv: v0 * v0 + v1 * v1 + v2 * v2 + v3 * v3,
-        above: (x0 > -1.0) & (x1 > -1.0) & (x2 > -1.0) & (x3 > -1.0),
+        above: (b0 > -1.0) & (b1 > -1.0) & (b2 > -1.0) & (b3 > -1.0),
     }
+}
+
+fn weigh_lane(p: Inter6Palette, b: &[f32; 16], j: usize) -> Lane
+    requires { ⌜ j < 4 ⌝ }
+    ensures { λ r. ⌜ r ≡ laneAt p (now (b .entry)) j ⌝ }
+{
+    weigh_four(p, b[j], b[j + 4], b[j + 8], b[j + 12])
 }
 
 fn weigh(p: Inter6Palette, b: &[f32; 16]) -> Weighed
     ensures { λ r. ⌜ r ≡ weighed p (now (b .entry)) ⌝ }
 {
-    let mut w = [0.0f32; 16];
-    let mut ww = [0.0f32; 4];
-    let mut wv = [0.0f32; 4];
-    let mut vv = [0.0f32; 4];
-    let mut above = true;
-    for j in 0..4usize {
-        let l = weigh_lane(p, b, j);
-        w[j] = l.w0;
-        w[j + 4] = l.w1;
-        w[j + 8] = l.w2;
-        w[j + 12] = l.w3;
-        ww[j] = l.ww;
-        wv[j] = l.wv;
-        vv[j] = l.vv;
-        above = above & l.above;
-    }
+    let x = weigh_lane(p, b, 0);
+    let y = weigh_lane(p, b, 1);
+    let z = weigh_lane(p, b, 2);
+    let w = weigh_lane(p, b, 3);
     Weighed {
-        w: w,
-        ww: ww,
-        wv: wv,
-        vv: vv,
-        above: above,
+        w: [
+            x.w0,
+            y.w0,
+            z.w0,
+            w.w0,
+            x.w1,
+            y.w1,
+            z.w1,
+            w.w1,
+            x.w2,
+            y.w2,
+            z.w2,
+            w.w2,
+            x.w3,
+            y.w3,
+            z.w3,
+            w.w3,
+        ],
+        ww: [x.ww, y.ww, z.ww, w.ww],
+        wv: [x.wv, y.wv, z.wv, w.wv],
+        vv: [x.vv, y.vv, z.vv, w.vv],
+        above: x.above & y.above & z.above & w.above,
     }
 }
 
@@ -99,24 +110,26 @@ fn across(s: [f32; 4]) -> f32
     (s[0] + s[1]) + (s[2] + s[3])
 }
 
-fn line_lane(b: &[f32; 16], w: &[f32; 16], e: f32, d: f32, j: usize) -> f32
-    requires { ⌜ j < 4 ⌝ }
-    ensures { λ r. ⌜ r ≡ lineLane (now (b .entry)) (now (w .entry)) e d j ⌝ }
-{
-    b[j] * (e + d * w[j])
-        + b[j + 4] * (e + d * w[j + 4])
-        + b[j + 8] * (e + d * w[j + 8])
-        + b[j + 12] * (e + d * w[j + 12])
-}
-
 fn line_lanes(b: &[f32; 16], w: &[f32; 16], e: f32, d: f32) -> [f32; 4]
     ensures { λ r. ⌜ r ≡ lineLanes (now (b .entry)) (now (w .entry)) e d ⌝ }
 {
     [
-        line_lane(b, w, e, d, 0),
-        line_lane(b, w, e, d, 1),
-        line_lane(b, w, e, d, 2),
-        line_lane(b, w, e, d, 3),
+        b[0] * (e + d * w[0])
+            + b[4] * (e + d * w[4])
+            + b[8] * (e + d * w[8])
+            + b[12] * (e + d * w[12]),
+        b[1] * (e + d * w[1])
+            + b[5] * (e + d * w[5])
+            + b[9] * (e + d * w[9])
+            + b[13] * (e + d * w[13]),
+        b[2] * (e + d * w[2])
+            + b[6] * (e + d * w[6])
+            + b[10] * (e + d * w[10])
+            + b[14] * (e + d * w[14]),
+        b[3] * (e + d * w[3])
+            + b[7] * (e + d * w[7])
+            + b[11] * (e + d * w[11])
+            + b[15] * (e + d * w[15]),
     ]
 }
 

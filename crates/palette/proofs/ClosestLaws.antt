@@ -14,17 +14,15 @@ use Rattle.floats.specs.Helpers.{absOf, byteOf}
 use Rattle.floats.proofs.WholePart.{trunc-capped}
 use Rattle.floats.proofs.Squares.{square-abs}
 use Rattle.block.specs.Samples.{pixelAt, tabulate, perPixel}
-use Rattle.block.specs.Orders.{rowDot, sumOfSquares}
-use Rattle.block.proofs.Fill.{getD-tabulate}
+use Rattle.block.specs.Orders.{sumOfSquares}
 use Rattle.index_list.specs.Indexes.{filledTo}
-use Rattle.index_list.proofs.Laws.{filled-same}
 use Rattle.index_list.specs.declared.IndexList.{IndexList}
 use Rattle.palette.specs.declared.Indexed.{Indexed}
 use Rattle.palette.specs.declared.inter4.Nearest.{Nearest}
 use Rattle.palette.specs.declared.inter6.Inter6Palette.{Inter6Palette}
 use Rattle.palette.specs.Palettes.{entry, seventh, indexMap, blended}
 use Rattle.palette.specs.Closest.{blend, blend7, weight, closest6, defaultOf, nearerOf, nearestTo, closest4}
-use Rattle.palette.specs.Rows.{index6, off6, rowCode, rowSum, cutWeight}
+use Rattle.palette.specs.Rows.{index6, off6, rowCode, rowSum, ofRow, cutWeight}
 
 -- ---- four values
 -- a choice between two records, field by field as the code makes it
@@ -128,34 +126,29 @@ weight-above p x h =
     (trunc-capped (blend p x) (is-true _ (add-fits binary32 (x ⊗ p .factor1) (p .add1))) h)
 
 -- ---- a whole block
--- what the code packs, by way of an array of sixteen indexes
-pub block-indexes : (k : List ℕ) (f : ℕ → ℕ) → k ≡ perPixel f → filledTo (λ i. getD k i 0) 16 ≡ filledTo f 16
-block-indexes k f e = filled-same _ f 16 (λ i h. rw e (getD-tabulate f 0 16 i h))
-
-pub indexes-below : (k : List ℕ) (f : ℕ → ℕ) → k ≡ perPixel f → ((i : ℕ) → f i < 8) → (i : ℕ) → i < 16 → getD k i 0 < 8
-indexes-below k f e small i h = rw (e, getD-tabulate f 0 16 i h) (small i)
-
 abbrev indexed : ℕ → Float → Indexed
 indexed d total = record { indexes = record { «data» = d }; error = total }
 
 -- ---- the same by rows
-pub row-lt : (p : Inter6Palette) (b : List Float) (i : ℕ) → rowCode p b i < 4096
+pub row-lt : (p : Inter6Palette) (x y z w : Float) → rowCode p x y z w < 4096
 unfolding rowCode
-row-lt p b i =
-    let small : (k : ℕ) → index6 p (pixelAt b k) < 8 = λ k. map-lt (blend7 p (pixelAt b k)) (blend7-le p (pixelAt b k)) in
-    omega (arith, small (4 * i), small (4 * i + 1), small (4 * i + 2), small (4 * i + 3))
+row-lt p x y z w =
+    let small : (v : Float) → index6 p v < 8 = λ v. map-lt (blend7 p v) (blend7-le p v) in
+    omega (arith, small x, small y, small z, small w)
 
-pub rows-code : (p : Inter6Palette) (b : List Float) → rowCode p b 0 + 4096 * rowCode p b 1 + 16777216 * rowCode p b 2 + 68719476736 * rowCode p b 3 ≡ filledTo (λ i. index6 p (pixelAt b i)) 16
+pub rows-code : (p : Inter6Palette) (b : List Float) → let row = ofRow (rowCode p) b in
+    row 0 + 4096 * row 1 + 16777216 * row 2 + 68719476736 * row 3 ≡ filledTo (λ i. index6 p (pixelAt b i)) 16
 unfolding rowCode filledTo
 rows-code p b = omega arith
 
-pub rows-sum : (p : Inter6Palette) (b : List Float) → f0 ⊕ rowSum p b 0 ⊕ rowSum p b 1 ⊕ rowSum p b 2 ⊕ rowSum p b 3 ≡ sumOfSquares (perPixel (λ i. off6 p (pixelAt b i)))
-unfolding rowSum sumOfSquares rowDot tabulate
+pub rows-sum : (p : Inter6Palette) (b : List Float) → let row = ofRow (rowSum p) b in
+    f0 ⊕ row 0 ⊕ row 1 ⊕ row 2 ⊕ row 3 ≡ sumOfSquares (perPixel (λ i. off6 p (pixelAt b i)))
+unfolding rowSum tabulate
 rows-sum p b = refl
 
 -- a square does not show the sign of an error
 pub sum-abs : (g : ℕ → Float) → sumOfSquares (perPixel g) ≡ sumOfSquares (perPixel (λ i. absOf (g i)))
-unfolding sumOfSquares rowDot tabulate
+unfolding tabulate
 sum-abs g = simp square-abs
 
 pub indexed-is : (list : IndexList) (error : Float) (d : ℕ) (total : Float) → list .«data» ≡ d → error ≡ total

@@ -17,7 +17,7 @@ use Rattle.floats.proofs.Exactly.{round-fixed}
 use Rattle.floats.proofs.Squares.{Plain, squared-plain, plain-not-below, add-plain}
 use Rattle.floats.proofs.NotBelow.{add-not-below}
 use Rattle.block.specs.Samples.{pixelAt, tabulate, perPixel}
-use Rattle.block.specs.Orders.{downLane, laneSum, sumInOrder}
+use Rattle.block.specs.Orders.{sumInOrder}
 use Rattle.palette.specs.declared.Kind.{Kind}
 use Rattle.palette.specs.Palettes.{entry, valuesOf}
 use Rattle.palette.specs.PaletteError.{leastTo, nearerSquare, leastSquareTo, miss, paletteError}
@@ -58,7 +58,7 @@ four : (a b c d x y z w : Float) → Over a x → Over b y → Over c z → Over
 four a b c d x y z w A B C D = both (a ⊕ b ⊕ c) (x ⊕ y ⊕ z) d w (both (a ⊕ b) (x ⊕ y) c z (both a x b y A B) C) D
 
 sum-over : (f g : ℕ → Float) → ((i : ℕ) → i < 16 → Over (f i) (g i)) → Over (sumInOrder (perPixel f)) (sumInOrder (perPixel g))
-unfolding sumInOrder laneSum downLane tabulate
+unfolding tabulate
 sum-over f g each =
     four _ _ _ _ _ _ _ _
     (four (f 0) (f 4) (f 8) (f 12) (g 0) (g 4) (g 8) (g 12) (each 0 (omega arith)) (each 4 (omega arith)) (each 8 (omega arith)) (each 12 (omega arith)))
@@ -118,7 +118,7 @@ module _ (v b : List Float) where
       grown _ (part i) (part l) (held i) (grown _ (part i) (part k) (held i) (grown _ (part i) (part j) (held i) one (plain j)) (plain k)) (plain l)
 
   row-over : Over (sumInOrder (perPixel part)) (firstRowSum v b)
-  unfolding firstRowSum sumInOrder laneSum downLane tabulate
+  unfolding firstRowSum tabulate
   row-over = four _ _ _ _ _ _ _ _ (lane 0 4 8 12) (lane 1 5 9 13) (lane 2 6 10 14) (lane 3 7 11 15)
 
 pub row-floor : (kind : Kind) (b : List Float) (c0 c1 : Float) → lt (paletteError kind b c0 c1) (firstRowError kind b c0 c1) ≡ false

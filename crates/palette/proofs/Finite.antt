@@ -13,7 +13,7 @@ use Rattle.floats.proofs.Squares.{Plain, squared-plain, add-plain, plain-not-be
 use Rattle.values.specs.Values.{levelOf, valueOf}
 use Rattle.values.proofs.Levels.{levelValue-unit, level-le}
 use Rattle.block.specs.Samples.{pixelAt, tabulate, perPixel}
-use Rattle.block.specs.Orders.{downLane, laneSum, sumInOrder}
+use Rattle.block.specs.Orders.{sumInOrder}
 use Rattle.block.specs.Block.{InUnit}
 use Rattle.palette.specs.declared.Kind.{Kind}
 use Rattle.palette.specs.declared.Kind.the-variants.{Six, Four}
@@ -91,7 +91,7 @@ four-within a b c d A B C D =
 -- what a sum of four and a sum of four such sums keep, a sum in order keeps
 module _ (P Q R : Float → Type 0) (lane : (a b c d : Float) → P a → P b → P c → P d → Q (a ⊕ b ⊕ c ⊕ d)) (all : (a b c d : Float) → Q a → Q b → Q c → Q d → R (a ⊕ b ⊕ c ⊕ d)) where
   sum-keeps : (f : ℕ → Float) → ((i : ℕ) → i < 16 → P (f i)) → R (sumInOrder (perPixel f))
-  unfolding sumInOrder laneSum downLane tabulate
+  unfolding tabulate
   sum-keeps f each =
       all (f 0 ⊕ f 4 ⊕ f 8 ⊕ f 12) (f 1 ⊕ f 5 ⊕ f 9 ⊕ f 13) (f 2 ⊕ f 6 ⊕ f 10 ⊕ f 14) (f 3 ⊕ f 7 ⊕ f 11 ⊕ f 15)
       (lane (f 0) (f 4) (f 8) (f 12) (each 0 (omega arith)) (each 4 (omega arith)) (each 8 (omega arith)) (each 12 (omega arith)))

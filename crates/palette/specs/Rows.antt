@@ -8,6 +8,7 @@ use Rattle.floats.specs.Arithmetic.{_⊕_, _⊖_, _⊗_, squared, whole, f1}
 use Rattle.floats.specs.Helpers.{byteUpTo7}
 use Rattle.block.specs.Samples.{pixelAt}
 use Rattle.palette.specs.declared.Kind.{Kind}
+use Rattle.palette.specs.declared.RowIndexes.{RowIndexes}
 use Rattle.palette.specs.declared.inter6.Inter6Palette.{Inter6Palette}
 use Rattle.palette.specs.Palettes.{seventh, indexMap, blended, valuesOf}
 use Rattle.palette.specs.PaletteError.{miss}
@@ -20,16 +21,22 @@ index6 p x = getD indexMap (blend7 p x) 0
 abbrev pub off6 : Inter6Palette → Float → Float
 off6 p x = x ⊖ blended p (blend7 p x)
 
--- ---- row i of a block: its indexes, three bits each, and the sum of its errors' squares (`rows-code`, `rows-sum`)
-unfoldable pub rowCode : Inter6Palette → List Float → ℕ → ℕ
-rowCode p b i =
-    let at : ℕ → ℕ = λ k. index6 p (pixelAt b k) in
-    at (4 * i) + 8 * at (4 * i + 1) + 64 * at (4 * i + 2) + 512 * at (4 * i + 3)
+-- ---- of a row's four samples: their indexes, three bits each, and the sum of their errors' squares (`rows-code`, `rows-sum`)
+unfoldable pub rowCode : Inter6Palette → Float → Float → Float → Float → ℕ
+rowCode p x y z w = index6 p x + 8 * index6 p y + 64 * index6 p z + 512 * index6 p w
 
-unfoldable pub rowSum : Inter6Palette → List Float → ℕ → Float
-rowSum p b i =
-    let at : ℕ → Float = λ k. off6 p (pixelAt b k) in
-    squared (at (4 * i)) ⊕ squared (at (4 * i + 1)) ⊕ squared (at (4 * i + 2)) ⊕ squared (at (4 * i + 3))
+unfoldable pub rowSum : Inter6Palette → Float → Float → Float → Float → Float
+rowSum p x y z w = squared (off6 p x) ⊕ squared (off6 p y) ⊕ squared (off6 p z) ⊕ squared (off6 p w)
+
+abbrev pub ofRow : {A : Type 0} → (Float → Float → Float → Float → A) → List Float → ℕ → A
+ofRow f b i = f (pixelAt b (4 * i)) (pixelAt b (4 * i + 1)) (pixelAt b (4 * i + 2)) (pixelAt b (4 * i + 3))
+
+-- ---- row i of sixteen indexes
+abbrev pub rowIndexes : List ℕ → ℕ → RowIndexes
+rowIndexes k i = record { x = getD k (4 * i) 0; y = getD k (4 * i + 1) 0; z = getD k (4 * i + 2) 0; w = getD k (4 * i + 3) 0 }
+
+abbrev pub packedRow : RowIndexes → ℕ
+packedRow n = n .x + 8 * n .y + 64 * n .z + 512 * n .w
 
 -- ---- the weight where the blend is above -1, by the cut of `closest` (`weight-above`)
 abbrev pub cutWeight : Float → Float

@@ -35,11 +35,11 @@ fn miss(eight: [f32; 8], pixel: f32) -> f32
 pub fn sum(eight: [f32; 8], b: &[f32; 16]) -> f32
     ensures { λ r. ⌜ r ≡ sumInOrder (perPixel (λ i. missOf eight (pixelAt (now (b .entry)) i))) ⌝ }
 {
-    let mut e = [0.0f32; 16];
+    let mut misses = [0.0f32; 16];
     for i in 0..16usize {
-        e[i] = miss(eight, b[i]);
+        misses[i] = miss(eight, b[i]);
     }
-    block::sum_in_order(&e)
+    block::sum_in_order(&misses)
 }
 
 // What the first row adds.

@@ -102,16 +102,16 @@ impl Inter4Palette {
     pub fn block_closest(self, b: &[f32; 16]) -> Indexed
         ensures { λ r. ⌜ r ≡ blockClosest (closest4 (self .colors)) (now (b .entry)) ⌝ }
     {
-        let mut k = [0u32; 16];
-        let mut e = [0.0f32; 16];
+        let mut chosen = [0u32; 16];
+        let mut errors = [0.0f32; 16];
         for i in 0..16usize {
             let n = self.nearest(b[i]);
-            k[i] = n.index;
-            e[i] = n.error;
+            chosen[i] = n.index;
+            errors[i] = n.error;
         }
         Indexed {
-            indexes: crate::indexes(&k),
-            error: block::sum_of_squares(&e),
+            indexes: crate::indexes(&chosen),
+            error: block::sum_of_squares(&errors),
         }
     }
 }

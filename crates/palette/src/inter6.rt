@@ -4,7 +4,7 @@ ghost use Prim.Native.Nat.{_≤_, _<_};
 ghost use lib.ListN.{getD};
 ghost use Rattle.palette.specs.Palettes.{inter6Palette, indexMap, blended as blendedOf, values6};
 ghost use Rattle.palette.specs.Closest.{blend as blendOf, blend7 as blend7Of, closest6, weight, weights, blockClosest};
-ghost use Rattle.palette.specs.Rows.{index6, off6, rowCode, rowSum, cutWeight};
+ghost use Rattle.palette.specs.Rows.{index6, off6, rowCode, rowSum, ofRow, cutWeight};
 use crate::Closest;
 use crate::Indexed;
 use end_points::EndPoints;
@@ -172,18 +172,24 @@ impl Inter6Palette {
         }
     }
 
+    fn four(self, x: f32, y: f32, z: f32, w: f32) -> Row
+        ensures { λ r. ⌜ (r .code ≡ rowCode self x y z w) × (r .code < 4096) × (r .sum ≡ rowSum self x y z w) ⌝ }
+    {
+        let mx = self.matched(x);
+        let my = self.matched(y);
+        let mz = self.matched(z);
+        let mw = self.matched(w);
+        Row {
+            code: crate::four(mx.index, my.index, mz.index, mw.index),
+            sum: mx.off * mx.off + my.off * my.off + mz.off * mz.off + mw.off * mw.off,
+        }
+    }
+
     fn row(self, b: &[f32; 16], i: usize) -> Row
         requires { ⌜ i < 4 ⌝ }
-        ensures { λ r. ⌜ (r .code ≡ rowCode self (now (b .entry)) i) × (r .code < 4096) × (r .sum ≡ rowSum self (now (b .entry)) i) ⌝ }
+        ensures { λ r. ⌜ (r .code ≡ ofRow (rowCode self) (now (b .entry)) i) × (r .code < 4096) × (r .sum ≡ ofRow (rowSum self) (now (b .entry)) i) ⌝ }
     {
-        let x = self.matched(b[4 * i]);
-        let y = self.matched(b[4 * i + 1]);
-        let z = self.matched(b[4 * i + 2]);
-        let w = self.matched(b[4 * i + 3]);
-        Row {
-            code: crate::four(x.index, y.index, z.index, w.index),
-            sum: x.off * x.off + y.off * y.off + z.off * z.off + w.off * w.off,
-        }
+        self.four(b[4 * i], b[4 * i + 1], b[4 * i + 2], b[4 * i + 3])
     }
 
     // Row by row, as the squares are summed: four rows at once need no exchange of lanes.

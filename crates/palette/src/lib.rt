@@ -6,7 +6,7 @@ ghost use Rattle.index_list.specs.Indexes.{filledTo};
 ghost use Rattle.block.specs.Samples.{pixelAt, perPixel};
 ghost use Rattle.block.specs.Orders.{sumInOrder};
 ghost use Rattle.palette.specs.PaletteError.{miss, paletteError};
-ghost use Rattle.palette.specs.Rows.{firstRowSum, firstRowError};
+ghost use Rattle.palette.specs.Rows.{rowIndexes, packedRow, firstRowSum, firstRowError};
 ghost use Rattle.palette.specs.ByKind.{paletteOf, valuesIn};
 
 pub mod error;
@@ -56,15 +56,43 @@ fn of_rows(r0: u32, r1: u32, r2: u32, r3: u32) -> IndexList
     }
 }
 
+// The indexes of row i.
+struct RowIndexes {
+    x: u32,
+    y: u32,
+    z: u32,
+    w: u32,
+}
+
+fn row_indexes(k: &[u32; 16], i: usize) -> RowIndexes
+    requires { ⌜ i < 4 ⌝ }
+    ensures { λ r. ⌜ r ≡ rowIndexes (now (k .entry)) i ⌝ }
+{
+    RowIndexes {
+        x: k[4 * i],
+        y: k[4 * i + 1],
+        z: k[4 * i + 2],
+        w: k[4 * i + 3],
+    }
+}
+
+fn row_code(k: &[u32; 16], i: usize) -> u32
+    requires { ⌜ (i < 4) × ((j : ℕ) → j < 16 → getD (now k) j 0 < 8) ⌝ }
+    ensures { λ r. ⌜ (r ≡ packedRow (rowIndexes (now (k .entry)) i)) × (r < 4096) ⌝ }
+{
+    let n = row_indexes(k, i);
+    four(n.x, n.y, n.z, n.w)
+}
+
 fn indexes(k: &[u32; 16]) -> IndexList
     requires { ⌜ ((i : ℕ) → i < 16 → getD (now k) i 0 < 8) ⌝ }
     ensures { λ r. ⌜ r .data ≡ filledTo (λ i. getD (now (k .entry)) i 0) 16 ⌝ }
 {
     of_rows(
-        four(k[0], k[1], k[2], k[3]),
-        four(k[4], k[5], k[6], k[7]),
-        four(k[8], k[9], k[10], k[11]),
-        four(k[12], k[13], k[14], k[15]),
+        row_code(k, 0),
+        row_code(k, 1),
+        row_code(k, 2),
+        row_code(k, 3),
     )
 }
 

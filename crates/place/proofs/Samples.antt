@@ -8,7 +8,7 @@ use native.Mathlib.Omega.{arith}
 use lib.ListN.{length}
 use lib.Ieee.{Float, nan, isNan}
 use Rattle.block.specs.Samples.{pixelAt}
-use Rattle.block.proofs.Fill.{fill-end, length-tabulate, getD-tabulate}
+use Rattle.block.proofs.Fill.{tabulated, length-tabulate, getD-tabulate}
 use Rattle.place.specs.Place.{along}
 use Rattle.place.specs.Place.{sampleIndex, blockOf}
 use Rattle.place.proofs.Places.{fits}
@@ -25,7 +25,7 @@ sample-within width column row i h l =
 pub blockOf-whole : (s : List Float) → length s ≡ 16 → blockOf s 4 0 0 ≡ s
 unfolding blockOf
 blockOf-whole s e =
-    sym (fill-end nan (λ (i : ℕ). pixelAt s (sampleIndex 4 0 0 i)) 16 s 16 (record { size = e; done = λ k h. ap (pixelAt s) (here k) }) refl)
+    sym (tabulated nan (λ i. pixelAt s (sampleIndex 4 0 0 i)) s e (λ k h. ap (pixelAt s) (here k)))
   where
     here : (k : ℕ) → k ≡ sampleIndex 4 0 0 k
     here k = omega arith
@@ -38,7 +38,7 @@ blockOf-real s width height column row e h k real i l =
     let rows : 4 * (row + 1) ≤ height = omega arith in
     let within = sample-within width column row i h l .1 in
     let inside : sampleIndex width column row i < length s = omega (arith, mul-le-mul-right width rows, mul-comm width height) in
-    rw (getD-tabulate (λ (m : ℕ). pixelAt s (sampleIndex width column row m)) nan 16 i l) (real (sampleIndex width column row i) inside)
+    rw getD-tabulate (real (sampleIndex width column row i) inside)
 
 pub blockOf-length : (s : List Float) (width column row : ℕ) → length (blockOf s width column row) ≡ 16
 unfolding blockOf

@@ -57,7 +57,7 @@ module _ (b : List Float) (min : ℕ) where
   pub floors-start : Floors b min (maxFloors b)
   floors-start = record {
     size = length-tabulate (maxFloor b) 0 256;
-    each = λ max h l kind. rw (getD-tabulate (maxFloor b) nan 256 max l) (max-floor b min max h (omega arith) kind);
+    each = λ max h l kind. rw getD-tabulate (max-floor b min max h (omega arith) kind);
   }
 
   pub floors-raised : (out : List Float) (at : ℕ) (v : Float) → Floors b min out → at < 256

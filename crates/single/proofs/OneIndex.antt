@@ -16,4 +16,4 @@ unfolding ended
 uniform-written kind e v =
     ap (packed (e .c0) (e .c1))
     (filled-same (λ i. ruleOf kind e v .index) (λ i. ruleOf kind e (pixelAt (perPixel (λ i. v)) i) .index) 16
-    (λ k h. sym (ap (λ (x : Float). ruleOf kind e x .index) (getD-tabulate (λ i. v) nan 16 k h))))
+    (λ k h. sym (ap (λ (x : Float). ruleOf kind e x .index) (getD-tabulate (λ i. v) nan h))))

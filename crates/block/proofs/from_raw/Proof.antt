@@ -1,5 +1,5 @@
 use mathlib.Core.Path.{refl}
-use Prim.Native.Nat.{ℕ, _≤_, _-_}
+use Prim.Native.Nat.{ℕ, _-_}
 use native.Mathlib.Omega.{arith}
 use lib.Ieee.{nan}
 use borrow.Author.Needs.{needs}
@@ -11,13 +11,13 @@ use Rattle.block.proofs.from_raw.Statement.{statement}
 use Rattle.block.proofs.from_raw.Tie as tie
 
 abbrev Inv-loop : tie.InvT-loop
-Inv-loop samples b₀ i₀ b i = (i ≤ 16) × Filled nan (λ (k : ℕ). entryClamp (pixelAt samples k)) 16 b i
+Inv-loop samples clamped₀ i₀ clamped i = Filled nan (λ (k : ℕ). entryClamp (pixelAt samples k)) 16 clamped i
 
 abbrev μ-loop : tie.MeasureT-loop
-μ-loop samples b₀ i₀ b i = 16 - i
+μ-loop samples clamped₀ i₀ clamped i = 16 - i
 
 loop-holds : tie.Need-loop-holds Inv-loop μ-loop
-loop-holds c = (search needs, fill-start nan _ 16 _ refl)
+loop-holds c = fill-start refl
 
 mul-entry-clamp : tie.Need-mul-entry-clamp Inv-loop μ-loop
 mul-entry-clamp c = search needs
@@ -28,11 +28,11 @@ element-copy-out-entry-clamp c = search needs
 entry-clamp-requires : tie.Need-entry-clamp-requires Inv-loop μ-loop
 entry-clamp-requires c κs = search needs
 
-mul-b : tie.Need-mul-b Inv-loop μ-loop
-mul-b c = search needs
+mul-clamped : tie.Need-mul-clamped Inv-loop μ-loop
+mul-clamped c = search needs
 
-array-write-b : tie.Need-array-write-b Inv-loop μ-loop
-array-write-b c = search needs
+array-write-clamped : tie.Need-array-write-clamped Inv-loop μ-loop
+array-write-clamped c = search needs
 
 add-i : tie.Need-add-i Inv-loop μ-loop
 add-i c = search needs
@@ -41,16 +41,11 @@ loop-less : tie.Need-loop-less Inv-loop μ-loop
 loop-less c = search needs
 
 loop-again : tie.Need-loop-again Inv-loop μ-loop
-loop-again c =
-    let h = c .before .before .before in
-    let s = h .before .args .samples .now in
-    (search needs, fill-step nan (λ (k : ℕ). entryClamp (pixelAt s k)) 16 (h .loop .b) (h .loop .i) (c .entry-clamp .result) (h .loop .inv .1) (c .before .before .loop-test .taken) (c .entry-clamp .ensures))
+loop-again c = fill-step (c .before .before .before .loop .inv) (search needs) (c .entry-clamp .ensures)
 
 returns : tie.Need-returns Inv-loop μ-loop
 unfolding entered
-returns c =
-    let h = c .before in
-    fill-end nan (λ (k : ℕ). entryClamp (pixelAt (h .before .args .samples .now) k)) 16 (h .loop .b) (h .loop .i) (h .loop .inv .1) (omega arith)
+returns c = fill-end (c .before .loop .inv) (omega arith)
 
 pub from-raw-spec : {M : Type 1} → statement M
 from-raw-spec =
@@ -62,8 +57,8 @@ from-raw-spec =
     mul-entry-clamp
     element-copy-out-entry-clamp
     entry-clamp-requires
-    mul-b
-    array-write-b
+    mul-clamped
+    array-write-clamped
     add-i
     loop-less
     loop-again

@@ -1,4 +1,3 @@
-use Rattle.block.specs.Block.{mean}
 use borrow.Author.Needs.{needs}
 use Rattle.block.proofs.mean.Statement.{statement}
 use Rattle.block.proofs.mean.Tie as tie
@@ -7,7 +6,6 @@ sum-in-pairs-requires : tie.Need-sum-in-pairs-requires
 sum-in-pairs-requires c κs = search needs
 
 returns : tie.Need-returns
-unfolding mean
 returns c = rw (c .sum-in-pairs .ensures)
 
 pub mean-spec : {M : Type 1} → statement M

@@ -1,6 +1,6 @@
 use mathlib.Core.Path.{refl}
 use mathlib.Core.List.{[], _∷_}
-use Prim.Native.Nat.{ℕ, _≤_, _-_}
+use Prim.Native.Nat.{ℕ, _-_}
 use native.Mathlib.Omega.{arith}
 use lib.ListN.{getD}
 use lib.Ieee.{Float, nan}
@@ -16,13 +16,13 @@ abbrev valueOfTwo : ℕ → ℕ → Bool → ℕ → Float
 valueOfTwo l0 l1 snorm i = levelValue (getD (l0 ∷ l1 ∷ []) i 0) snorm
 
 abbrev Inv-loop : tie.InvT-loop
-Inv-loop l0 l1 snorm levels floats₀ i₀ floats i = (i ≤ 2) × Filled nan (valueOfTwo l0 l1 snorm) 2 floats i
+Inv-loop l0 l1 snorm levels floats₀ i₀ floats i = Filled nan (valueOfTwo l0 l1 snorm) 2 floats i
 
 abbrev μ-loop : tie.MeasureT-loop
 μ-loop l0 l1 snorm levels floats₀ i₀ floats i = 2 - i
 
 loop-holds : tie.Need-loop-holds Inv-loop μ-loop
-loop-holds c = (search needs, fill-start nan _ 2 _ refl)
+loop-holds c = fill-start refl
 
 array-read-level-value : tie.Need-array-read-level-value Inv-loop μ-loop
 array-read-level-value c = search needs
@@ -43,18 +43,11 @@ loop-less : tie.Need-loop-less Inv-loop μ-loop
 loop-less c = search needs
 
 loop-again : tie.Need-loop-again Inv-loop μ-loop
-loop-again c =
-    let h = c .before .before in
-    let a = h .before .args in
-    let f = valueOfTwo (a .l0) (a .l1) (a .snorm) in
-    (search needs, fill-step nan f 2 (h .loop .floats) (h .loop .i) (c .level-value .result) (h .loop .inv .1) (c .before .loop-test .taken) (c .level-value .ensures))
+loop-again c = fill-step (c .before .before .loop .inv) (search needs) (c .level-value .ensures)
 
 returns : tie.Need-returns Inv-loop μ-loop
 unfolding tabulate
-returns c =
-    let h = c .before in
-    let a = h .before .args in
-    fill-end nan (valueOfTwo (a .l0) (a .l1) (a .snorm)) 2 (h .loop .floats) (h .loop .i) (h .loop .inv .1) (omega arith)
+returns c = fill-end (c .before .loop .inv) (omega arith)
 
 pub end-values-spec : {M : Type 1} → statement M
 end-values-spec =

@@ -10,13 +10,13 @@ use Rattle.decode.proofs.look_up.Statement.{statement}
 use Rattle.decode.proofs.look_up.Tie as tie
 
 abbrev Inv-loop : tie.InvT-loop
-Inv-loop list out eight samples₀ i₀ samples i = (i ≤ 16) × Filled nan (picked eight (list .data)) 16 samples i
+Inv-loop list out eight samples₀ i₀ samples i = Filled nan (picked eight (list .data)) 16 samples i
 
 abbrev μ-loop : tie.MeasureT-loop
 μ-loop list out eight samples₀ i₀ samples i = 16 - i
 
 loop-holds : tie.Need-loop-holds Inv-loop μ-loop
-loop-holds c = (search needs, fill-start nan _ 16 _ refl)
+loop-holds c = fill-start refl
 
 get-requires : tie.Need-get-requires Inv-loop μ-loop
 get-requires c κs = search needs
@@ -43,19 +43,10 @@ loop-less : tie.Need-loop-less Inv-loop μ-loop
 loop-less c = search needs
 
 loop-again : tie.Need-loop-again Inv-loop μ-loop
-loop-again c =
-    let h = c .before .before in
-    let a = h .before .args in
-    let f = picked (a .t2) (a .list .data) in
-    let v = entry (a .t2) (c .get .result) in
-    let e : v ≡ f (h .loop .i) = rw (c .get .ensures) in
-    (search needs, fill-step nan f 16 (h .loop .samples) (h .loop .i) v (h .loop .inv .1) (c .before .loop-test .taken) e)
+loop-again c = fill-step (c .before .before .loop .inv) (search needs) (rw (c .get .ensures))
 
 returns : tie.Need-returns Inv-loop μ-loop
-returns c =
-    let h = c .before in
-    let a = h .before .args in
-    fill-end nan (picked (a .t2) (a .list .data)) 16 (h .loop .samples) (h .loop .i) (h .loop .inv .1) (omega arith)
+returns c = fill-end (c .before .loop .inv) (omega arith)
 
 pub look-up-spec : {M : Type 1} → statement M
 look-up-spec =

@@ -13,13 +13,13 @@ use Rattle.place.proofs.gather.Statement.{statement}
 use Rattle.place.proofs.gather.Tie as tie
 
 abbrev Inv-loop : tie.InvT-loop
-Inv-loop samples width column row b₀ i₀ b i = (i ≤ 16) × Filled nan (λ (k : ℕ). pixelAt samples (sampleIndex width column row k)) 16 b i
+Inv-loop samples width column row b₀ i₀ b i = Filled nan (λ (k : ℕ). pixelAt samples (sampleIndex width column row k)) 16 b i
 
 abbrev μ-loop : tie.MeasureT-loop
 μ-loop samples width column row b₀ i₀ b i = 16 - i
 
 loop-holds : tie.Need-loop-holds Inv-loop μ-loop
-loop-holds c = (search needs, fill-start nan _ 16 _ refl)
+loop-holds c = fill-start refl
 
 -- the sample that turn i reads stands within the samples, and so does every part of its place
 Room : tie.In-loop Inv-loop μ-loop → Type 0
@@ -77,11 +77,11 @@ loop-less : tie.Need-loop-less Inv-loop μ-loop
 loop-less c = search needs
 
 loop-again : tie.Need-loop-again Inv-loop μ-loop
-loop-again c = let h = c .before .before in (search needs, fill-step nan _ 16 _ _ _ (h .loop .inv .1) (search needs) refl)
+loop-again c = fill-step (c .before .before .loop .inv) (search needs) refl
 
 returns : tie.Need-returns Inv-loop μ-loop
 unfolding blockOf
-returns c = let h = c .before in fill-end nan _ 16 _ _ (h .loop .inv .1) (omega arith)
+returns c = fill-end (c .before .loop .inv) (omega arith)
 
 pub gather-spec : {M : Type 1} → statement M
 gather-spec =

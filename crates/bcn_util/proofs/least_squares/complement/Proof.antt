@@ -1,5 +1,5 @@
 use mathlib.Core.Path.{refl}
-use Prim.Native.Nat.{ℕ, _≤_, _-_}
+use Prim.Native.Nat.{ℕ, _-_}
 use native.Mathlib.Omega.{arith}
 use lib.Ieee.{nan}
 use borrow.Author.Needs.{needs}
@@ -11,13 +11,13 @@ use Rattle.bcn_util.proofs.least_squares.complement.Statement.{statemen
 use Rattle.bcn_util.proofs.least_squares.complement.Tie as tie
 
 abbrev Inv-loop : tie.InvT-loop
-Inv-loop w v₀ i₀ v i = (i ≤ 16) × Filled nan (λ (k : ℕ). f1 ⊖ pixelAt w k) 16 v i
+Inv-loop w v₀ i₀ v i = Filled nan (λ (k : ℕ). f1 ⊖ pixelAt w k) 16 v i
 
 abbrev μ-loop : tie.MeasureT-loop
 μ-loop w v₀ i₀ v i = 16 - i
 
 loop-holds : tie.Need-loop-holds Inv-loop μ-loop
-loop-holds c = (search needs, fill-start nan _ 16 _ refl)
+loop-holds c = fill-start refl
 
 mul-v : tie.Need-mul-v Inv-loop μ-loop
 mul-v c = search needs
@@ -38,17 +38,11 @@ loop-less : tie.Need-loop-less Inv-loop μ-loop
 loop-less c = search needs
 
 loop-again : tie.Need-loop-again Inv-loop μ-loop
-loop-again c =
-    let h = c .before .before in
-    let a = h .before .args in
-    (search needs, fill-step nan (λ (k : ℕ). f1 ⊖ pixelAt (a .w .now) k) 16 (h .loop .v) (h .loop .i) (f1 ⊖ pixelAt (a .w .now) (h .loop .i)) (h .loop .inv .1) (c .before .loop-test .taken) refl)
+loop-again c = fill-step (c .before .before .loop .inv) (search needs) refl
 
 returns : tie.Need-returns Inv-loop μ-loop
 unfolding complement
-returns c =
-    let h = c .before in
-    let a = h .before .args in
-    fill-end nan (λ (k : ℕ). f1 ⊖ pixelAt (a .w .now) k) 16 (h .loop .v) (h .loop .i) (h .loop .inv .1) (omega arith)
+returns c = fill-end (c .before .loop .inv) (omega arith)
 
 pub complement-spec : {M : Type 1} → statement M
 complement-spec =

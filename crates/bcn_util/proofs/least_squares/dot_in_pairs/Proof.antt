@@ -1,5 +1,5 @@
 use mathlib.Core.Path.{refl, ap, _∙_}
-use Prim.Native.Nat.{ℕ, _≤_, _-_}
+use Prim.Native.Nat.{ℕ, _-_}
 use native.Mathlib.Omega.{arith}
 use lib.Ieee.{nan}
 use borrow.Author.Needs.{needs}
@@ -12,13 +12,13 @@ use Rattle.bcn_util.proofs.least_squares.dot_in_pairs.Statement.{statem
 use Rattle.bcn_util.proofs.least_squares.dot_in_pairs.Tie as tie
 
 abbrev Inv-loop : tie.InvT-loop
-Inv-loop u v e₀ i₀ e i = (i ≤ 16) × Filled nan (λ (k : ℕ). pixelAt u k ⊗ pixelAt v k) 16 e i
+Inv-loop u v e₀ i₀ e i = Filled nan (λ (k : ℕ). pixelAt u k ⊗ pixelAt v k) 16 e i
 
 abbrev μ-loop : tie.MeasureT-loop
 μ-loop u v e₀ i₀ e i = 16 - i
 
 loop-holds : tie.Need-loop-holds Inv-loop μ-loop
-loop-holds c = (search needs, fill-start nan _ 16 _ refl)
+loop-holds c = fill-start refl
 
 mul-e : tie.Need-mul-e Inv-loop μ-loop
 mul-e c = search needs
@@ -45,20 +45,14 @@ loop-less : tie.Need-loop-less Inv-loop μ-loop
 loop-less c = search needs
 
 loop-again : tie.Need-loop-again Inv-loop μ-loop
-loop-again c =
-    let h = c .before .before .before in
-    let a = h .before .args in
-    (search needs, fill-step nan (λ (k : ℕ). pixelAt (a .u .now) k ⊗ pixelAt (a .v .now) k) 16 (h .loop .e) (h .loop .i) (pixelAt (a .u .now) (h .loop .i) ⊗ pixelAt (a .v .now) (h .loop .i)) (h .loop .inv .1) (c .before .before .loop-test .taken) refl)
+loop-again c = fill-step (c .before .before .before .loop .inv) (search needs) refl
 
 sum-in-pairs-requires : tie.Need-sum-in-pairs-requires Inv-loop μ-loop
 sum-in-pairs-requires c κs = search needs
 
 returns : tie.Need-returns Inv-loop μ-loop
 unfolding dotInPairs
-returns c =
-    let h = c .before .before .before in
-    let a = h .before .args in
-    c .sum-in-pairs .ensures ∙ ap sumInPairs (fill-end nan (λ (k : ℕ). pixelAt (a .u .now) k ⊗ pixelAt (a .v .now) k) 16 (h .loop .e) (h .loop .i) (h .loop .inv .1) (omega arith))
+returns c = c .sum-in-pairs .ensures ∙ ap sumInPairs (fill-end (c .before .before .before .loop .inv) (omega arith))
 
 pub dot-in-pairs-spec : {M : Type 1} → statement M
 dot-in-pairs-spec =

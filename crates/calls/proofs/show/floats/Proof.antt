@@ -5,10 +5,10 @@ use Rattle.calls.proofs.show.floats.Statement.{statement}
 use Rattle.calls.proofs.show.floats.Tie as tie
 
 abbrev Inv-loop : tie.InvT-loop
-Inv-loop x i₀ t3 i = i ≤ 16
+Inv-loop x pixel₀ t3 pixel = pixel ≤ 16
 
 abbrev μ-loop : tie.MeasureT-loop
-μ-loop x i₀ t3 i = 16 - i
+μ-loop x pixel₀ t3 pixel = 16 - pixel
 
 loop-holds : tie.Need-loop-holds Inv-loop μ-loop
 loop-holds c = search needs
@@ -28,8 +28,8 @@ element-copy-out-float c = search needs
 float-requires : tie.Need-float-requires Inv-loop μ-loop
 float-requires c κs = search needs
 
-add-i : tie.Need-add-i Inv-loop μ-loop
-add-i c = search needs
+add-pixel : tie.Need-add-pixel Inv-loop μ-loop
+add-pixel c = search needs
 
 loop-less : tie.Need-loop-less Inv-loop μ-loop
 loop-less c = search needs
@@ -52,7 +52,7 @@ floats-spec =
     mul-float
     element-copy-out-float
     float-requires
-    add-i
+    add-pixel
     loop-less
     loop-again
     returns)

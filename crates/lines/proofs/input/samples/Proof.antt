@@ -1,6 +1,6 @@
 -- `lines::input::samples` meets its contract: the array is filled from its start.
 use mathlib.Core.Path.{refl, ap, _∙_}
-use Prim.Native.Nat.{ℕ, _≤_, _-_}
+use Prim.Native.Nat.{ℕ, _-_}
 use native.Mathlib.Omega.{arith}
 use lib.Ieee.{binary32, nan, ofBits}
 use Rattle.block.proofs.Fill.{Filled, fill-start, fill-step, fill-end}
@@ -10,13 +10,13 @@ use Rattle.lines.proofs.input.samples.Statement.{statement}
 use Rattle.lines.proofs.input.samples.Tie as tie
 
 abbrev Inv-loop : tie.InvT-loop
-Inv-loop bytes b₀ i₀ b i = (i ≤ 16) × Filled nan (λ (k : ℕ). ofBits binary32 (patternAt bytes k)) 16 b i
+Inv-loop bytes b₀ i₀ b i = Filled nan (λ (k : ℕ). ofBits binary32 (patternAt bytes k)) 16 b i
 
 abbrev μ-loop : tie.MeasureT-loop
 μ-loop bytes b₀ i₀ b i = 16 - i
 
 loop-holds : tie.Need-loop-holds Inv-loop μ-loop
-loop-holds c = (search needs, fill-start nan _ 16 _ refl)
+loop-holds c = fill-start refl
 
 pattern-requires : tie.Need-pattern-requires Inv-loop μ-loop
 pattern-requires c κs = search needs
@@ -37,16 +37,11 @@ loop-less : tie.Need-loop-less Inv-loop μ-loop
 loop-less c = search needs
 
 loop-again : tie.Need-loop-again Inv-loop μ-loop
-loop-again c =
-    let h = c .before .before .before in
-    let s = h .before .before .args .bytes .now in
-    (search needs, fill-step nan (λ (k : ℕ). ofBits binary32 (patternAt s k)) 16 (h .loop .b) (h .loop .i) (c .float-of .result) (h .loop .inv .1) (c .before .before .loop-test .taken) (c .float-of .ensures ∙ ap (ofBits binary32) (c .before .pattern .ensures)))
+loop-again c = fill-step (c .before .before .before .loop .inv) (search needs) (c .float-of .ensures ∙ ap (ofBits binary32) (c .before .pattern .ensures))
 
 returns : tie.Need-returns Inv-loop μ-loop
 unfolding samplesOf
-returns c =
-    let h = c .before in
-    fill-end nan (λ (k : ℕ). ofBits binary32 (patternAt (h .before .before .args .bytes .now) k)) 16 (h .loop .b) (h .loop .i) (h .loop .inv .1) (omega arith)
+returns c = fill-end (c .before .loop .inv) (omega arith)
 
 pub samples-spec : {M : Type 1} → statement M
 samples-spec =

@@ -1,5 +1,5 @@
 use mathlib.Core.Path.{refl, ap, _∙_}
-use Prim.Native.Nat.{ℕ, _≤_, _-_}
+use Prim.Native.Nat.{ℕ, _-_}
 use native.Mathlib.Omega.{arith}
 use lib.Ieee.{nan}
 use borrow.Author.Needs.{needs}
@@ -11,13 +11,13 @@ use Rattle.palette.proofs.error.sum.Statement.{statement}
 use Rattle.palette.proofs.error.sum.Tie as tie
 
 abbrev Inv-loop : tie.InvT-loop
-Inv-loop eight b e₀ i₀ e i = (i ≤ 16) × Filled nan (λ (k : ℕ). miss eight (pixelAt b k)) 16 e i
+Inv-loop eight b misses₀ i₀ misses i = Filled nan (λ (k : ℕ). miss eight (pixelAt b k)) 16 misses i
 
 abbrev μ-loop : tie.MeasureT-loop
-μ-loop eight b e₀ i₀ e i = 16 - i
+μ-loop eight b misses₀ i₀ misses i = 16 - i
 
 loop-holds : tie.Need-loop-holds Inv-loop μ-loop
-loop-holds c = (search needs, fill-start nan _ 16 _ refl)
+loop-holds c = fill-start refl
 
 mul-miss : tie.Need-mul-miss Inv-loop μ-loop
 mul-miss c = search needs
@@ -28,11 +28,11 @@ element-copy-out-miss c = search needs
 miss-requires : tie.Need-miss-requires Inv-loop μ-loop
 miss-requires c κs = search needs
 
-mul-e : tie.Need-mul-e Inv-loop μ-loop
-mul-e c = search needs
+mul-misses : tie.Need-mul-misses Inv-loop μ-loop
+mul-misses c = search needs
 
-array-write-e : tie.Need-array-write-e Inv-loop μ-loop
-array-write-e c = search needs
+array-write-misses : tie.Need-array-write-misses Inv-loop μ-loop
+array-write-misses c = search needs
 
 add-i : tie.Need-add-i Inv-loop μ-loop
 add-i c = search needs
@@ -41,19 +41,13 @@ loop-less : tie.Need-loop-less Inv-loop μ-loop
 loop-less c = search needs
 
 loop-again : tie.Need-loop-again Inv-loop μ-loop
-loop-again c =
-    let h = c .before .before .before in
-    let a = h .before .args in
-    (search needs, fill-step nan (λ (k : ℕ). miss (a .eight) (pixelAt (a .b .now) k)) 16 (h .loop .e) (h .loop .i) (c .miss .result) (h .loop .inv .1) (c .before .before .loop-test .taken) (c .miss .ensures))
+loop-again c = fill-step (c .before .before .before .loop .inv) (search needs) (c .miss .ensures)
 
 sum-in-order-requires : tie.Need-sum-in-order-requires Inv-loop μ-loop
 sum-in-order-requires c κs = search needs
 
 returns : tie.Need-returns Inv-loop μ-loop
-returns c =
-    let h = c .before .before .before in
-    let a = h .before .args in
-    c .sum-in-order .ensures ∙ ap sumInOrder (fill-end nan (λ (k : ℕ). miss (a .eight) (pixelAt (a .b .now) k)) 16 (h .loop .e) (h .loop .i) (h .loop .inv .1) (omega arith))
+returns c = c .sum-in-order .ensures ∙ ap sumInOrder (fill-end (c .before .before .before .loop .inv) (omega arith))
 
 pub sum-spec : {M : Type 1} → statement M
 sum-spec =
@@ -65,8 +59,8 @@ sum-spec =
     mul-miss
     element-copy-out-miss
     miss-requires
-    mul-e
-    array-write-e
+    mul-misses
+    array-write-misses
     add-i
     loop-less
     loop-again

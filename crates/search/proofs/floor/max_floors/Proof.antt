@@ -9,13 +9,13 @@ use Rattle.search.proofs.floor.max_floors.Statement.{statement}
 use Rattle.search.proofs.floor.max_floors.Tie as tie
 
 abbrev Inv-loop : tie.InvT-loop
-Inv-loop b floors₀ max₀ floors max = (max ≤ 256) × Filled nan (maxFloor b) 256 floors max
+Inv-loop b floors₀ max₀ floors max = Filled nan (maxFloor b) 256 floors max
 
 abbrev μ-loop : tie.MeasureT-loop
 μ-loop b floors₀ max₀ floors max = 256 - max
 
 loop-holds : tie.Need-loop-holds Inv-loop μ-loop
-loop-holds c = (search needs, fill-start nan _ 256 _ refl)
+loop-holds c = fill-start refl
 
 cast-max-floor : tie.Need-cast-max-floor Inv-loop μ-loop
 cast-max-floor c = search needs
@@ -36,14 +36,10 @@ loop-less : tie.Need-loop-less Inv-loop μ-loop
 loop-less c = search needs
 
 loop-again : tie.Need-loop-again Inv-loop μ-loop
-loop-again c =
-    let h = c .before .before in
-    (search needs, fill-step nan (maxFloor (h .before .args .b .now)) 256 (h .loop .floors) (h .loop .max) (c .max-floor .result) (h .loop .inv .1) (c .before .loop-test .taken) (c .max-floor .ensures))
+loop-again c = fill-step (c .before .before .loop .inv) (search needs) (c .max-floor .ensures)
 
 returns : tie.Need-returns Inv-loop μ-loop
-returns c =
-    let h = c .before in
-    fill-end nan (maxFloor (h .before .args .b .now)) 256 (h .loop .floors) (h .loop .max) (h .loop .inv .1) (omega arith)
+returns c = fill-end (c .before .loop .inv) (omega arith)
 
 pub max-floors-spec : {M : Type 1} → statement M
 max-floors-spec =

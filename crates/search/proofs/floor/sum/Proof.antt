@@ -1,6 +1,6 @@
 use mathlib.Core.Path.{refl, ap, _∙_}
 use mathlib.Core.List.{List}
-use Prim.Native.Nat.{ℕ, _≤_, _-_}
+use Prim.Native.Nat.{ℕ, _-_}
 use native.Mathlib.Omega.{arith}
 use lib.Ieee.{Float, nan}
 use borrow.Author.Needs.{needs}
@@ -15,13 +15,13 @@ abbrev term : List Float → Float → Float → ℕ → Float
 term b low high i = atLeast (beyond low high (pixelAt b i)) (pixelAt b i)
 
 abbrev Inv-loop : tie.InvT-loop
-Inv-loop b low high e₀ i₀ e i = (i ≤ 16) × Filled nan (term b low high) 16 e i
+Inv-loop b low high e₀ i₀ e i = Filled nan (term b low high) 16 e i
 
 abbrev μ-loop : tie.MeasureT-loop
 μ-loop b low high e₀ i₀ e i = 16 - i
 
 loop-holds : tie.Need-loop-holds Inv-loop μ-loop
-loop-holds c = (search needs, fill-start nan _ 16 _ refl)
+loop-holds c = fill-start refl
 
 mul-beyond : tie.Need-mul-beyond Inv-loop μ-loop
 mul-beyond c = search needs
@@ -56,19 +56,14 @@ loop-less c = search needs
 loop-again : tie.Need-loop-again Inv-loop μ-loop
 loop-again c =
     let k = c .before .before in
-    let h = k .before .before .before in
-    let a = h .before .args in
-    (search needs, fill-step nan (term (a .b .now) (a .low) (a .high)) 16 (h .loop .e) (h .loop .i) (c .at-least .result) (h .loop .inv .1) (k .before .before .loop-test .taken) (c .at-least .ensures ∙ ap (λ (d : Float). atLeast d (pixelAt (a .b .now) (h .loop .i))) (k .beyond .ensures)))
+    fill-step (k .before .before .before .loop .inv) (search needs) (rw (c .at-least .ensures, k .beyond .ensures))
 
 sum-in-order-requires : tie.Need-sum-in-order-requires Inv-loop μ-loop
 sum-in-order-requires c κs = search needs
 
 returns : tie.Need-returns Inv-loop μ-loop
 unfolding floorOf
-returns c =
-    let h = c .before .before .before in
-    let a = h .before .args in
-    c .sum-in-order .ensures ∙ ap sumInOrder (fill-end nan (term (a .b .now) (a .low) (a .high)) 16 (h .loop .e) (h .loop .i) (h .loop .inv .1) (omega arith))
+returns c = c .sum-in-order .ensures ∙ ap sumInOrder (fill-end (c .before .before .before .loop .inv) (omega arith))
 
 pub sum-spec : {M : Type 1} → statement M
 sum-spec =

@@ -1,5 +1,5 @@
 use mathlib.Core.Path.{_≡_, refl, _∙_}
-use Prim.Native.Nat.{ℕ, _-_, _≤_, _<_}
+use Prim.Native.Nat.{ℕ, _-_, _<_}
 use native.Mathlib.Omega.{arith}
 use lib.ListN.{getD}
 use lib.Ieee.{nan}
@@ -8,19 +8,19 @@ use Rattle.index_list.specs.Indexes.{filledTo}
 use Rattle.block.specs.Samples.{pixelAt}
 use Rattle.block.proofs.Fill.{Filled, fill-start, fill-step}
 use Rattle.palette.specs.Closest.{closest6}
-use Rattle.palette.specs.Rows.{index6, off6, rowCode, rowSum}
+use Rattle.palette.specs.Rows.{index6, off6, rowCode, rowSum, ofRow}
 use Rattle.palette.proofs.ClosestLaws.{row-lt, rows-code, rows-sum, sum-abs, indexed-is}
 use Rattle.palette.proofs.inter6.Inter6Palette.block_closest.Statement.{statement}
 use Rattle.palette.proofs.inter6.Inter6Palette.block_closest.Tie as tie
 
 abbrev Inv-loop : tie.InvT-loop
-Inv-loop self b codes₀ sums₀ i₀ codes sums i = (i ≤ 4) × Filled 0 (rowCode self b) 4 codes i × Filled nan (rowSum self b) 4 sums i
+Inv-loop self b codes₀ sums₀ i₀ codes sums i = Filled 0 (ofRow (rowCode self) b) 4 codes i × Filled nan (ofRow (rowSum self) b) 4 sums i
 
 abbrev μ-loop : tie.MeasureT-loop
 μ-loop self b codes₀ sums₀ i₀ codes sums i = 4 - i
 
 loop-holds : tie.Need-loop-holds Inv-loop μ-loop
-loop-holds c = (search needs, fill-start 0 _ 4 _ refl, fill-start nan _ 4 _ refl)
+loop-holds c = (fill-start refl, fill-start refl)
 
 row-requires : tie.Need-row-requires Inv-loop μ-loop
 row-requires c κs = search needs
@@ -44,15 +44,7 @@ loop-less : tie.Need-loop-less Inv-loop μ-loop
 loop-less c = search needs
 
 loop-again : tie.Need-loop-again Inv-loop μ-loop
-loop-again c =
-    let h = c .before .before in
-    let p = h .before .args .self in
-    let b = h .before .args .b .now in
-    let t = c .before .loop-test .taken in (
-      search needs,
-      fill-step 0 (rowCode p b) 4 (h .loop .codes) (h .loop .i) (c .row .result .code) (h .loop .inv .1) t (c .row .ensures .0),
-      fill-step nan (rowSum p b) 4 (h .loop .sums) (h .loop .i) (c .row .result .sum) (h .loop .inv .2) t (c .row .ensures .2),
-    )
+loop-again c = let v = c .before .before .loop .inv in (fill-step (v .0) (search needs) (c .row .ensures .0), fill-step (v .1) (search needs) (c .row .ensures .2))
 
 array-read-of-rows : tie.Need-array-read-of-rows Inv-loop μ-loop
 array-read-of-rows c = search needs
@@ -72,7 +64,7 @@ of-rows-requires c κs =
     let o = h .loop in
     let p = h .before .args .self in
     let b = h .before .args .b .now in
-    let small : (k : ℕ) → k < 4 → getD (o .codes) k 0 < 4096 = λ k l. rw (o .inv .1 .done k (omega arith)) (row-lt p b k) in
+    let small : (k : ℕ) → k < 4 → getD (o .codes) k 0 < 4096 = λ k l. rw (o .inv .0 .done k (omega arith)) (row-lt p _ _ _ _) in
     (small 0 (omega arith), small 1 (omega arith), small 2 (omega arith), small 3 (omega arith))
 
 array-read-t28 : tie.Need-array-read-t28 Inv-loop μ-loop
@@ -94,8 +86,8 @@ returns c =
     let o = h .loop in
     let p = h .before .args .self in
     let b = h .before .args .b .now in
-    let code : (k : ℕ) → k < 4 → getD (o .codes) k 0 ≡ rowCode p b k = λ k l. o .inv .1 .done k (omega arith) in
-    let sum : (k : ℕ) → k < 4 → getD (o .sums) k nan ≡ rowSum p b k = λ k l. o .inv .2 .done k (omega arith) in
+    let code : (k : ℕ) → k < 4 → getD (o .codes) k 0 ≡ ofRow (rowCode p) b k = λ k l. o .inv .0 .done k (omega arith) in
+    let sum : (k : ℕ) → k < 4 → getD (o .sums) k nan ≡ ofRow (rowSum p) b k = λ k l. o .inv .1 .done k (omega arith) in
     let I : c .of-rows .result .«data» ≡ filledTo (λ i. index6 p (pixelAt b i)) 16 = c .of-rows .ensures ∙ rw (code 0 (omega arith), code 1 (omega arith), code 2 (omega arith), code 3 (omega arith)) (rows-code p b) in
     indexed-is (c .of-rows .result) _ _ _ I
     (rw (sum 0 (omega arith), sum 1 (omega arith), sum 2 (omega arith), sum 3 (omega arith)) (rows-sum p b ∙ sum-abs (λ i. off6 p (pixelAt b i))))

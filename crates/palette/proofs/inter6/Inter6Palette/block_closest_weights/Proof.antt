@@ -1,5 +1,5 @@
 use mathlib.Core.Path.{refl}
-use Prim.Native.Nat.{ℕ, _≤_, _-_}
+use Prim.Native.Nat.{ℕ, _-_}
 use native.Mathlib.Omega.{arith}
 use lib.Ieee.{nan}
 use borrow.Author.Needs.{needs}
@@ -10,13 +10,13 @@ use Rattle.palette.proofs.inter6.Inter6Palette.block_closest_weights.St
 use Rattle.palette.proofs.inter6.Inter6Palette.block_closest_weights.Tie as tie
 
 abbrev Inv-loop : tie.InvT-loop
-Inv-loop self b w₀ i₀ w i = (i ≤ 16) × Filled nan (λ (k : ℕ). weight self (pixelAt b k)) 16 w i
+Inv-loop self b w₀ i₀ w i = Filled nan (λ (k : ℕ). weight self (pixelAt b k)) 16 w i
 
 abbrev μ-loop : tie.MeasureT-loop
 μ-loop self b w₀ i₀ w i = 16 - i
 
 loop-holds : tie.Need-loop-holds Inv-loop μ-loop
-loop-holds c = (search needs, fill-start nan _ 16 _ refl)
+loop-holds c = fill-start refl
 
 mul-closest-weight : tie.Need-mul-closest-weight Inv-loop μ-loop
 mul-closest-weight c = search needs
@@ -40,18 +40,11 @@ loop-less : tie.Need-loop-less Inv-loop μ-loop
 loop-less c = search needs
 
 loop-again : tie.Need-loop-again Inv-loop μ-loop
-loop-again c =
-    let t = c .before .before in
-    let h = t .before in
-    let a = h .before .args in
-    (search needs, fill-step nan (λ (k : ℕ). weight (a .self) (pixelAt (a .b .now) k)) 16 (h .loop .w) (h .loop .i) (c .closest-weight .result) (h .loop .inv .1) (t .loop-test .taken) (c .closest-weight .ensures))
+loop-again c = fill-step (c .before .before .before .loop .inv) (search needs) (c .closest-weight .ensures)
 
 returns : tie.Need-returns Inv-loop μ-loop
 unfolding weights
-returns c =
-    let h = c .before in
-    let a = h .before .args in
-    fill-end nan (λ (k : ℕ). weight (a .self) (pixelAt (a .b .now) k)) 16 (h .loop .w) (h .loop .i) (h .loop .inv .1) (omega arith)
+returns c = fill-end (c .before .loop .inv) (omega arith)
 
 pub block-closest-weights-spec : {M : Type 1} → statement M
 block-closest-weights-spec =
