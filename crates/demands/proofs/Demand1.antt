@@ -15,6 +15,7 @@ use Rattle.bc4.specs.declared.Resent.the-variants.{Block as Answered, Refused a
 use Rattle.bc4.specs.declared.Tiled.the-variants.{Written, Refused as NotTiled}
 use Rattle.refusal.specs.Refusals.{Check, firstOf, answered, encodeChecks, resendChecks, tileChecks}
 use Rattle.refusal.proofs.Firsts.{refusal-of}
+use Rattle.bc4.specs.Word.{wordOf}
 use Rattle.bc4.specs.Calls.{ofEncoded, ofScored, ofResent, ofTiled}
 use Rattle.demands.specs.Demand1.{Condition, Exactly, InNumberOrder, Demand1, EncodeRefuses, ResendRefuses, TileRefuses}
 use Rattle.demands.proofs.Refusing.{Alike, end, then, at-last, ascends, exactly, in-order}
@@ -50,7 +51,7 @@ demand-1 = record {
   encode-word = λ s flags limit quality last.
       answer-in-order ofEncoded NotEncoded (Block _) refl (λ q. refl) (at-last (encode-alike s) (when-same (word-iff flags limit quality last))) tt;
   resend-word = λ s held flags limit quality last.
-      answer-in-order ofResent NotResent (Answered _) refl (λ q. refl) (at-last (resend-alike s held _) (when-same (word-iff flags limit quality last))) tt;
+      answer-in-order ofResent NotResent (Answered _) refl (λ q. refl) (at-last (resend-alike s held (wordOf flags limit quality last .options)) (when-same (word-iff flags limit quality last))) tt;
   tile-word = λ s width height out flags limit quality last.
       answer-in-order ofTiled NotTiled (Written _) refl (λ q. refl) (at-last (tile-alike s width height out) (when-same (word-iff flags limit quality last))) tt;
   decode-leaves = λ q encoded snorm before. refl;

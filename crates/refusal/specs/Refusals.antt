@@ -108,5 +108,6 @@ viewChecks long width height column row =
 abbrev pub andWord : List Check → Bool → List Check
 andWord checks malformed = checks ++ when WordMalformed malformed ∷ []
 
+-- the refusal of a call whose word is malformed: 8 where it is refused for nothing else
 abbrev pub orMalformed : Checked → Refusal
 orMalformed = answered (λ q. q) WordMalformed
