@@ -11,7 +11,7 @@ use lib.Ieee.{Float, nan, ofBits, ofInt, div}
 use Rattle.floats.specs.Arithmetic.{_⊕_, _⊖_, _⊗_, _⊘_, squared, whole}
 use Rattle.floats.proofs.Table.{all, at, same, same→eq}
 use Rattle.block.specs.Samples.{pixelAt}
-use Rattle.index_list.specs.Indexes.{indexAt, filledTo}
+use Rattle.index_list.specs.Indexes.{indexAt, setAt, filledTo}
 use Rattle.index_list.proofs.Laws.{filled-unset}
 use Rattle.palette.specs.declared.Kind.{Kind}
 use Rattle.palette.specs.declared.Closest.{Closest}
@@ -19,7 +19,7 @@ use Rattle.palette.specs.declared.Indexed.{Indexed}
 use Rattle.palette.specs.Rules.{closestOf}
 use Rattle.palette.proofs.Rules.{closest-lt}
 use Rattle.bcn_util.specs.Diffusion.{sixteenths, weights, given, diffused}
-use Rattle.bcn_util.specs.Dither.{withPixel, ditherStep, ditherTo}
+use Rattle.bcn_util.specs.Dither.{ditherStep, ditherTo}
 
 and-true : (p : Bool) → (p && true) ≡ p
 and-true true = refl
@@ -73,7 +73,7 @@ module _ {kind : Kind} {c0 c1 : Float} {b : List Float} {i : ℕ} {map : List Fl
 
   -- `error` is the answer's but for its sign
   pub reached-step : (c : Closest) (error : Float) → c ≡ closestOf kind c0 c1 (pixelAt b i ⊕ pixelAt map i) → squared (c .error) ≡ squared error
-      → Reached kind c0 c1 b (i + 1) (diffused map i (pixelAt b i ⊕ pixelAt map i ⊖ c .value)) (withPixel done i (c .index) error)
+      → Reached kind c0 c1 b (i + 1) (diffused map i (pixelAt b i ⊕ pixelAt map i ⊖ c .value)) (record { indexes = record { «data» = setAt (done .indexes .«data») i (c .index) }; error = done .error ⊕ squared error })
   unfolding ditherTo ditherStep
   reached-step c error e same = rw (add-one, ← same, e, r .map-is, r .done-is) (record { map-is = refl; done-is = refl })
 

@@ -16,14 +16,14 @@ pub record Dithered : Type 0 where
   pub done : Indexed
 
 -- one pixel more: its index, and its error squared
-abbrev pub withPixel : Indexed → ℕ → ℕ → Float → Indexed
-withPixel done i index error = record { indexes = record { «data» = setAt (done .indexes .«data») i index }; error = done .error ⊕ squared error }
-
 unfoldable pub ditherStep : (Float → Closest) → List Float → Dithered → ℕ → Dithered
 ditherStep rule b s i =
     let pixel = pixelAt b i ⊕ pixelAt (s .map) i in
     let c = rule pixel in
-    record { map = diffused (s .map) i (pixel ⊖ c .value); done = withPixel (s .done) i (c .index) (c .error) }
+    record {
+      map = diffused (s .map) i (pixel ⊖ c .value);
+      done = record { indexes = record { «data» = setAt (s .done .indexes .«data») i (c .index) }; error = s .done .error ⊕ squared (c .error) };
+    }
 
 unfoldable pub ditherTo : (Float → Closest) → List Float → ℕ → Dithered
 ditherTo rule b zero = record { map = perPixel (λ i. f0); done = record { indexes = record { «data» = 0 }; error = f0 } }

@@ -1,7 +1,7 @@
 -- The bytes of a block once its ends are chosen: endpoints in the mode, and the indexes that dither or the closest values give.
 use mathlib.Core.List.{List}
 use mathlib.Core.Bool.{Bool, cond}
-use lib.Ieee.{Float}
+use lib.Ieee.{Float, lt}
 use Rattle.floats.specs.declared.Pair.{Pair}
 use Rattle.index_list.specs.Layout.{packed}
 use Rattle.end_points.specs.declared.EndPoints.{EndPoints}
@@ -14,6 +14,10 @@ use Rattle.palette.specs.Closest.{blockClosest}
 use Rattle.palette.specs.Rules.{closestOf}
 use Rattle.bcn_util.specs.Dither.{blockDither}
 use Rattle.coding.specs.declared.Coded.{Coded}
+
+-- the second if its error is strictly smaller
+abbrev pub smaller : Coded → Coded → Coded
+smaller best next = cond (lt (next .error) (best .error)) next best
 
 -- what the palette of these endpoints answers for a sample
 abbrev pub ruleOf : Kind → EndPoints → Float → Closest

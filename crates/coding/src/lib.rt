@@ -1,6 +1,7 @@
 // What both compressions end with: palette, indexes, bytes.
 ghost use mathlib.Core.Path.{_≡_};
-ghost use Rattle.coding.specs.Coding.{indexed as indexedOf, ended as endedOf};
+ghost use mathlib.Core.Bool.{cond};
+ghost use Rattle.coding.specs.Coding.{smaller as smallerOf, indexed as indexedOf, ended as endedOf};
 use end_points::EndPoints;
 use palette::Indexed;
 use palette::Kind;
@@ -11,6 +12,18 @@ use palette::inter6::Inter6Palette;
 pub struct Coded {
     pub bytes: u64,
     pub error: f32,
+}
+
+fn pick(t: bool, a: Coded, b: Coded) -> Coded
+    ensures { λ r. ⌜ r ≡ cond t a b ⌝ }
+{
+    if t { a } else { b }
+}
+
+pub fn smaller(best: Coded, next: Coded) -> Coded
+    ensures { λ r. ⌜ r ≡ smallerOf best next ⌝ }
+{
+    pick(next.error < best.error, next, best)
 }
 
 fn indexed(kind: Kind, b: &[f32; 16], dither: bool, e: EndPoints) -> Indexed

@@ -6,7 +6,7 @@ use Prim.Native.Nat.{ℕ, _<_}
 use lib.Dec.{T}
 use lib.Ieee.{Float, nan, inf, fin, binary32, lt, le, fits, ofBits}
 use Rattle.floats.specs.Arithmetic.{f0, f1}
-use Rattle.floats.specs.Helpers.{laneMin, laneMax, entryClamp}
+use Rattle.floats.specs.Helpers.{laneMax, entryClamp}
 use Rattle.floats.proofs.Tests.{clash}
 use Rattle.floats.proofs.Order.{not-of-le}
 use Rattle.floats.proofs.Squares.{Plain, le-antisym}

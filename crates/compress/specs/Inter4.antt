@@ -1,6 +1,6 @@
 -- bc4.rs, `compress_inter4` and `inter4_reassign_defaults`.
 use mathlib.Core.List.{List}
-use mathlib.Core.Bool.{Bool, false, cond}
+use mathlib.Core.Bool.{Bool, cond, _&&_}
 use Prim.Native.Nat.{ℕ, zero, suc, _+_, _-_}
 use lib.Dec.{ltb}
 use lib.Ieee.{Float, lt}
@@ -16,9 +16,16 @@ use Rattle.coding.specs.declared.Coded.{Coded}
 use Rattle.coding.specs.Coding.{coded}
 use Rattle.compress.specs.Sorted.{placed, placeOf}
 
+-- MAX_DISTANCE, 0.125, and 1 - MAX_DISTANCE
+abbrev pub maxDistance : Float
+maxDistance = bits 0x3e00_0000
+
+abbrev pub fromOne : Float
+fromOne = bits 0x3f60_0000
+
 -- both ends are further than an eighth from 0 and 1, so that no sample gains by being left to these two values
 abbrev pub far : Pair → Bool
-far p = cond (lt (bits 0x3e00_0000) (p .0)) (lt (p .1) (bits 0x3f60_0000)) false
+far p = lt maxDistance (p .0) && lt (p .1) fromOne
 
 -- The end that is nearer to its default moves: min up, or else max down.
 abbrev pub upward : Held → Bool

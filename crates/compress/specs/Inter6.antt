@@ -11,14 +11,21 @@ use Rattle.options.specs.declared.Options.{Options}
 use Rattle.refine.specs.Refining.{refinedEnds}
 use Rattle.fit.specs.Fit.{fitted}
 use Rattle.coding.specs.declared.Coded.{Coded}
-use Rattle.coding.specs.Coding.{coded}
+use Rattle.coding.specs.Coding.{smaller, coded}
 
 unfoldable pub compressedFrom : List Float → Pair → Options → Coded
 compressedFrom b p o = coded Six b (o .snorm) (o .dither) (refinedEnds Six b (fitted b (fitted b p)) o)
 
+-- 0.95 and 0.25
+abbrev pub nudge : Float
+nudge = bits 0x3f73_3333
+
+abbrev pub quarter : Float
+quarter = bits 0x3e80_0000
+
 -- The smallest and largest, 0.95 of the way from the mean, to lessen the weight of outliers.
 abbrev pub nudged : Float → Float → Float
-nudged mean x = mean ⊕ (x ⊖ mean) ⊗ bits 0x3f73_3333
+nudged mean x = mean ⊕ (x ⊖ mean) ⊗ nudge
 
 unfoldable pub nudgedPair : List Float → Pair → Pair
 nudgedPair b p = record { 0 = nudged (mean b) (p .0); 1 = nudged (mean b) (p .1) }
@@ -26,14 +33,10 @@ nudgedPair b p = record { 0 = nudged (mean b) (p .0); 1 = nudged (mean b) (p .1)
 -- Five values in place of eight: one end a quarter further out, the one that has more room to move.
 unfoldable pub five : Pair → Pair
 five p =
-    let quarter = (p .1 ⊖ p .0) ⊗ bits 0x3e80_0000 in
-    let min5 = p .0 ⊖ quarter in
-    let max5 = p .1 ⊕ quarter in
+    let further = (p .1 ⊖ p .0) ⊗ quarter in
+    let min5 = p .0 ⊖ further in
+    let max5 = p .1 ⊕ further in
     cond (lt (f1 ⊖ max5) min5) (record { 0 = maxOf min5 f0; 1 = p .1 }) (record { 0 = p .0; 1 = minOf max5 f1 })
-
--- the second if its error is strictly smaller
-abbrev pub smaller : Coded → Coded → Coded
-smaller best next = cond (lt (next .error) (best .error)) next best
 
 unfoldable pub compressInter6 : List Float → Pair → Options → Coded
 compressInter6 b p o =

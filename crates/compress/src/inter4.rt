@@ -18,10 +18,7 @@ const FROM_ONE: f32 = 1.0 - MAX_DISTANCE;
 fn far(p: Pair) -> bool
     ensures { λ r. ⌜ r ≡ farOf p ⌝ }
 {
-    if p.0 > MAX_DISTANCE {
-        return p.1 < FROM_ONE;
-    }
-    false
+    (MAX_DISTANCE < p.0) & (p.1 < FROM_ONE)
 }
 
 fn upward(h: Held) -> bool

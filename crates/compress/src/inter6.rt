@@ -1,6 +1,6 @@
 // compress_inter6.
 ghost use mathlib.Core.Path.{_≡_};
-ghost use Rattle.compress.specs.Inter6.{compressedFrom, nudged as nudgedOf, nudgedPair, five as fiveOf, smaller as smallerOf, compressInter6};
+ghost use Rattle.compress.specs.Inter6.{compressedFrom, nudged as nudgedOf, nudgedPair, five as fiveOf, compressInter6};
 use coding::Coded;
 use end_points::EndPoints;
 use floats::Pair;
@@ -46,22 +46,13 @@ fn five(p: Pair) -> Pair
     Pair(p.0, floats::min(max5, 1.0))
 }
 
-fn smaller(best: Coded, next: Coded) -> Coded
-    ensures { λ r. ⌜ r ≡ smallerOf best next ⌝ }
-{
-    if next.error < best.error {
-        return next;
-    }
-    best
-}
-
 pub fn compress_inter6(b: &[f32; 16], p: Pair, o: Options) -> Coded
     ensures { λ r. ⌜ r ≡ compressInter6 (now (b .entry)) p o ⌝ }
 {
     let near = nudged_pair(b, p);
     let best = compressed_from(b, near, o);
     if o.size_variations {
-        return smaller(best, compressed_from(b, five(near), o));
+        return coding::smaller(best, compressed_from(b, five(near), o));
     }
     best
 }

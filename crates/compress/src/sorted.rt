@@ -17,8 +17,9 @@ pub fn placed(b: &[f32; 16], k: u32) -> f32
 {
     let mut least = 1.0f32;
     for i in 0..16usize {
-        let n = not_above(b, b[i]);
-        least = floats::pick(k < n, floats::min(least, b[i]), least);
+        let x = b[i];
+        let n = not_above(b, x);
+        least = floats::pick(k < n, floats::min(least, x), least);
     }
     least
 }

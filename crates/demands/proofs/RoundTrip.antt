@@ -17,15 +17,16 @@ use Rattle.palette.specs.declared.Kind.{Kind}
 use Rattle.palette.specs.declared.Kind.the-variants.{Six, Four}
 use Rattle.options.specs.declared.Options.{Options}
 use Rattle.coding.specs.declared.Coded.{Coded}
-use Rattle.coding.specs.Coding.{ruleOf, ended, endsIn, coded}
-use Rattle.compress.specs.Inter6.{smaller, compressInter6}
+use Rattle.coding.specs.Coding.{smaller, ended, endsIn, coded}
+use Rattle.coding.proofs.EitherOne.{smaller-one}
+use Rattle.compress.specs.Inter6.{compressInter6}
 use Rattle.compress.specs.Inter4.{compressInter4}
 use Rattle.search.specs.Search.{searched}
-use Rattle.search.specs.Covered.{endsOf, pairBytes, OfPair}
+use Rattle.search.specs.Covered.{endsOf, OfPair}
 use Rattle.search.proofs.Covered.{search-written}
-use Rattle.single.specs.Single.{uniform, nearerPalette, singleColor}
-use Rattle.single.proofs.OneIndex.{uniform-written}
-use Rattle.encode.specs.Encoder.{searches, sixOnly, betterBytes, compressedOf, encoded, compressed}
+use Rattle.single.specs.Single.{uniform, around as aroundIn, nearerPalette, singleColor}
+use Rattle.single.proofs.OneIndex.{around-written}
+use Rattle.encode.specs.Encoder.{searches, sixOnly, compressedOf, encoded, compressed}
 use Rattle.encode.proofs.Middle.{block-middle-to-1}
 use Rattle.decode.proofs.Laws.{decoded-low}
 use Rattle.refusal.specs.Refusals.{firstOf}
@@ -64,17 +65,11 @@ module _ (b : List Float) (o : Options) (s : searches o ≡ false) (f : flat b �
     around-answer : (n : ℕ) (kind : Kind) → (o .dither ≡ true → kind ≡ Six) → n ≡ ended kind (perPixel (λ i. v)) (o .dither) (ends kind) .bytes → Answer b o n
     around-answer n kind d = by-palette b o n kind (ends kind) (perPixel (λ i. v)) (around s f l kind d) (ends-ready kind (o .snorm) (twice v))
 
-    nearer-answer : o .dither ≡ false → Answer b o (nearerPalette v (o .snorm))
-    unfolding nearerPalette
-    nearer-answer d = go (lt (ruleOf Four (ends Four) v .error) (ruleOf Six (ends Six) v .error))
-      where
-        go : (t : Bool) → Answer b o (cond t (uniform (ends Four) (ruleOf Four (ends Four) v .index)) (uniform (ends Six) (ruleOf Six (ends Six) v .index)))
-        go true = around-answer _ Four (λ t. clash t d) (rw d (uniform-written Four (ends Four) v))
-        go false = around-answer _ Six (λ t. refl) (rw d (uniform-written Six (ends Six) v))
-
     palette-answer : (t : Bool) → o .dither ≡ t → Answer b o (cond t dithered (nearerPalette v (o .snorm)))
     palette-answer true d = around-answer _ Six (λ t. refl) (rw d refl)
-    palette-answer false d = nearer-answer d
+    palette-answer false d =
+        smaller-one (λ k. Answer b o (k .bytes)) (aroundIn Six v (o .snorm)) (aroundIn Four v (o .snorm))
+        (around-answer _ Six (λ t. refl) (rw d (around-written Six v (o .snorm)))) (around-answer _ Four (λ t. clash t d) (rw d (around-written Four v (o .snorm))))
 
   flat-answer : InUnit b → Answer b o (singleColor v (o .snorm) (o .dither))
   unfolding singleColor
@@ -94,31 +89,23 @@ module _ (b : List Float) (o : Options) (s : searches o ≡ false) (f : flat b �
       let p = roundedEnds kind b o start in
       by-palette b o _ kind (endsIn kind (o .snorm) p) b (refined s f kind start h) (ends-ready kind (o .snorm) p) refl
 
-  smaller-answer : o .«size_variations» ≡ true → (t : Bool) → Answer b o (cond t (runs Six (fiveStart b)) (runs Six (sixStart b)) .bytes)
-  smaller-answer e true = coded-answer Six (fiveStart b) (five e)
-  smaller-answer e false = coded-answer Six (sixStart b) six
-
   six-answer : Answer b o (compressInter6 b (minMax b) o .bytes)
   six-answer = rw (demand-3 .six-runs b o) (go (o .«size_variations») refl)
     where
       go : (t : Bool) → o .«size_variations» ≡ t → Answer b o (cond t (smaller (runs Six (sixStart b)) (runs Six (fiveStart b))) (runs Six (sixStart b)) .bytes)
-      go true e = smaller-answer e (lt (runs Six (fiveStart b) .error) (runs Six (sixStart b) .error))
+      go true e = smaller-one (λ k. Answer b o (k .bytes)) _ _ (coded-answer Six (sixStart b) six) (coded-answer Six (fiveStart b) (five e))
       go false e = coded-answer Six (sixStart b) six
 
   four-answer : sixOnly o (minMax b) ≡ false → Answer b o (compressInter4 b o .bytes)
   four-answer e = rw (demand-3 .four-runs b o) (coded-answer Four (fourStart b o) (four e))
 
-  better-answer : sixOnly o (minMax b) ≡ false → (t : Bool) → Answer b o (cond t (compressInter6 b (minMax b) o .bytes) (compressInter4 b o .bytes))
-  better-answer e true = six-answer
-  better-answer e false = four-answer e
-
   other-answer : Answer b o (compressedOf b o (minMax b))
   unfolding compressedOf
   other-answer = go (sixOnly o (minMax b)) refl
     where
-      go : (t : Bool) → sixOnly o (minMax b) ≡ t → Answer b o (cond t (compressInter6 b (minMax b) o .bytes) (betterBytes (compressInter6 b (minMax b) o) (compressInter4 b o)))
+      go : (t : Bool) → sixOnly o (minMax b) ≡ t → Answer b o (cond t (compressInter6 b (minMax b) o .bytes) (smaller (compressInter4 b o) (compressInter6 b (minMax b) o) .bytes))
       go true e = six-answer
-      go false e = better-answer e (lt (compressInter6 b (minMax b) o .error) (compressInter4 b o .error))
+      go false e = smaller-one (λ k. Answer b o (k .bytes)) (compressInter4 b o) (compressInter6 b (minMax b) o) (four-answer e) six-answer
 
 -- ---- the whole encoder
 encoded-answer : (b : List Float) (o : Options) → InUnit b → Answer b o (encoded b o (minMax b))

@@ -17,9 +17,9 @@ use Rattle.options.specs.declared.Options.{Options}
 use Rattle.options.specs.declared.Quantization.the-variants.{MediumQuality, HighQuality}
 use Rattle.refine.specs.Rounds.{refined}
 use Rattle.refine.specs.Refining.{firstStep, leastStep, quantizedPair, quantizing}
-use Rattle.coding.specs.Coding.{coded}
+use Rattle.coding.specs.Coding.{smaller, coded}
 use Rattle.fit.specs.Fit.{fitted}
-use Rattle.compress.specs.Inter6.{nudgedPair, five, smaller, compressInter6}
+use Rattle.compress.specs.Inter6.{nudgedPair, five, compressInter6}
 use Rattle.compress.specs.Inter4.{firstEnds, compressInter4}
 use Rattle.encode.specs.Encoder.{searches, compressed}
 use Rattle.search.specs.Covered.{Covered, pairError, OfPair}

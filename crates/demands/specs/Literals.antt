@@ -11,7 +11,9 @@ use Rattle.block.specs.Block.{bc4MinValue, sixteenth}
 use Rattle.palette.specs.Palettes.{f7, seventh, fifth1, fifth2, fifth3, fifth4}
 use Rattle.bcn_util.specs.LeastSquares.{f32Epsilon}
 use Rattle.bcn_util.specs.Diffusion.{sixteenths, weights}
-use Rattle.refine.specs.Refining.{quantStep, leastStep}
+use Rattle.refine.specs.Refining.{quantStep, firstPart, leastStep}
+use Rattle.compress.specs.Inter6.{nudge, quarter}
+use Rattle.compress.specs.Inter4.{maxDistance, fromOne}
 use Rattle.search.specs.Floor.{margin}
 use Rattle.single.specs.Single.{bc4Epsilon}
 use Rattle.encode.specs.Encoder.{inter6Threshold}
@@ -36,19 +38,19 @@ pub record Literals : Type 0 where
   pub unsigned-steps : f255 ≡ whole 255
   -- `0.5`: compress_bc4_block, EndPoints, both palettes, step_decay in refine_endpoints
   pub one-half : half ≡ decimal 5 10
-  -- `0.25`: compress_inter6, here five
-  pub quarter : bits 0x3e80_0000 ≡ decimal 25 100
-  -- `0.95`: nudge in compress_inter6, here nudged
-  pub nudge : bits 0x3f73_3333 ≡ decimal 95 100
-  -- `0.1` and `0.15`: step_initial in refine_endpoints, here firstStep
-  pub step-initial : (bits 0x3dcc_cccd ≡ decimal 1 10) × (bits 0x3e19_999a ≡ decimal 15 100)
+  -- `0.25`: compress_inter6
+  pub one-quarter : quarter ≡ decimal 25 100
+  -- `0.95`: nudge in compress_inter6
+  pub nudge-part : nudge ≡ decimal 95 100
+  -- `0.1` and `0.15`: step_initial in refine_endpoints
+  pub step-initial : (firstPart true ≡ decimal 1 10) × (firstPart false ≡ decimal 15 100)
   -- `0.2`, `0.4`, `0.6`, `0.8`: Inter4Palette::new
   pub fifths : (fifth1 ≡ decimal 2 10) × (fifth2 ≡ decimal 4 10) × (fifth3 ≡ decimal 6 10) × (fifth4 ≡ decimal 8 10)
   -- `f32::EPSILON`, 2^-23: LeastSquaresWeightMatrix::from_d
   pub f32-epsilon : f32Epsilon ≡ decimal 1 (2 ^ 23)
   -- ---- expressions
-  -- `0.125`, MAX_DISTANCE, and `1.0 - MAX_DISTANCE`: inter4_reassign_defaults, here far
-  pub max-distance : (bits 0x3e00_0000 ≡ decimal 125 1000) × (bits 0x3f60_0000 ≡ whole 1 ⊖ decimal 125 1000)
+  -- `0.125`, MAX_DISTANCE, and `1.0 - MAX_DISTANCE`: inter4_reassign_defaults
+  pub max-distance : (maxDistance ≡ decimal 125 1000) × (fromOne ≡ whole 1 ⊖ decimal 125 1000)
   -- `1. / 255.` and `1. / 255. / 2.`: step_min in refine_endpoints
   pub step-min : (leastStep true ≡ whole 1 ⊘ whole 255) × (leastStep false ≡ whole 1 ⊘ whole 255 ⊘ whole 2)
   -- `1. / 254. + 0.0001`: QUANT_STEP in refine_endpoints

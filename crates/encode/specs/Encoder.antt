@@ -7,7 +7,7 @@ use Rattle.floats.specs.Arithmetic.{_⊕_, _⊖_, _⊗_, bits, f0, f1, half}
 use Rattle.floats.specs.declared.Pair.{Pair}
 use Rattle.block.specs.Block.{entered, minMax}
 use Rattle.options.specs.declared.Options.{Options}
-use Rattle.coding.specs.declared.Coded.{Coded}
+use Rattle.coding.specs.Coding.{smaller}
 use Rattle.compress.specs.Inter6.{compressInter6}
 use Rattle.compress.specs.Inter4.{compressInter4}
 use Rattle.single.specs.Single.{bc4Epsilon, singleColor}
@@ -31,14 +31,10 @@ amid p =
 abbrev pub sixOnly : Options → Pair → Bool
 sixOnly o p = not (o .«use_inter4») || (o .«use_inter4_heuristic» && amid p)
 
--- six values if their error is strictly smaller
-abbrev pub betterBytes : Coded → Coded → ℕ
-betterBytes six four = cond (lt (six .error) (four .error)) (six .bytes) (four .bytes)
-
 unfoldable pub compressedOf : List Float → Options → Pair → ℕ
 compressedOf b o p =
     let six = compressInter6 b p o in
-    cond (sixOnly o p) (six .bytes) (betterBytes six (compressInter4 b o))
+    cond (sixOnly o p) (six .bytes) (smaller (compressInter4 b o) six .bytes)
 
 abbrev pub middle : Pair → Float
 middle p = half ⊗ (p .0 ⊕ p .1)

@@ -1,10 +1,9 @@
 // compress_bc4_block.
 ghost use mathlib.Core.Path.{_≡_};
-ghost use Rattle.encode.specs.Encoder.{searches as searchesOf, amid as amidOf, sixOnly, betterBytes, compressedOf, encoded as encodedOf, compressed};
+ghost use Rattle.encode.specs.Encoder.{searches as searchesOf, amid as amidOf, sixOnly, compressedOf, encoded as encodedOf, compressed};
 ghost use mathlib.Core.Bool.{true};
 ghost use lib.Ieee.{le};
 ghost use Rattle.floats.specs.Arithmetic.{f0, f1};
-use coding::Coded;
 use floats::Pair;
 use options::Options;
 
@@ -29,15 +28,6 @@ fn six_only(o: Options, p: Pair) -> bool
     !o.use_inter4 | (o.use_inter4_heuristic & amid(p))
 }
 
-fn better_bytes(six: Coded, four: Coded) -> u64
-    ensures { λ r. ⌜ r ≡ betterBytes six four ⌝ }
-{
-    if six.error < four.error {
-        return six.bytes;
-    }
-    four.bytes
-}
-
 fn compressed_of(b: &[f32; 16], o: Options, p: Pair) -> u64
     ensures { λ r. ⌜ r ≡ compressedOf (now (b .entry)) o p ⌝ }
 {
@@ -45,7 +35,8 @@ fn compressed_of(b: &[f32; 16], o: Options, p: Pair) -> u64
     if six_only(o, p) {
         return six.bytes;
     }
-    better_bytes(six, compress::inter4::compress_inter4(b, o))
+    let four = compress::inter4::compress_inter4(b, o);
+    coding::smaller(four, six).bytes
 }
 
 // The smallest and the largest of a block that has entered are in 0..1.

@@ -21,8 +21,11 @@ abbrev pub quantStep : Float
 quantStep = bits 0x3b84_48e0
 
 -- ---- step 1: 0.1 or 0.15 of the spread first, down to 1 / 255 or half of it
+abbrev pub firstPart : Bool → Float
+firstPart fast = cond fast (bits 0x3dcc_cccd) (bits 0x3e19_999a)
+
 abbrev pub firstStep : Bool → Float → Float → Float
-firstStep fast min max = cond fast (bits 0x3dcc_cccd) (bits 0x3e19_999a) ⊗ (max ⊖ min)
+firstStep fast min max = firstPart fast ⊗ (max ⊖ min)
 
 abbrev pub leastStep : Bool → Float
 leastStep fast = cond fast (bits 0x3b80_8081) (bits 0x3b00_8081)

@@ -24,9 +24,10 @@ use Rattle.palette.specs.declared.Kind.the-variants.{Six, Four}
 use Rattle.palette.proofs.Finite.{byte-error-within}
 use Rattle.coding.specs.declared.Coded.{Coded}
 use Rattle.coding.specs.Coding.{ended}
+use Rattle.coding.proofs.EitherOne.{smaller-one}
 use Rattle.search.specs.Search.{pairTried, firstMax, minsTried, minLimit, leastMax, searched}
 use Rattle.search.specs.Covered.{Covered, endsOf, pairError, pairBytes, OfPair}
-use Rattle.search.proofs.EveryPair.{NotBelow, kept-one, candidate, pair-is, mins-keep, mins-below, first-le, first-from}
+use Rattle.search.proofs.EveryPair.{NotBelow, candidate, pair-is, mins-keep, mins-below, first-le, first-from}
 
 -- ---- at least one pair is covered: (0, 255)
 scaled : (x : Float) → x ⊗ f255 ≡ f255 ⊗ x
@@ -90,8 +91,8 @@ module _ (b : List Float) (u : InUnit b) where
           let c : Covered b min max = record { min-below = l; max-from = g .0; apart = g .1; max-to = t } in
           let one : (kind : Kind) → Found (candidate b kind min max) =
           λ kind. (record { kind = kind; min = min; max = max; covered = c; bytes = refl }, refl) in
-          let six = kept-one (λ k. (k ≡ start) ⊎ Found k) h (candidate b Six min max) p (inr (one Six)) in
-          rw (pair-is b h min max) (kept-one (λ k. (k ≡ start) ⊎ Found k) _ (candidate b Four min max) six (inr (one Four)))
+          let six = smaller-one (λ k. (k ≡ start) ⊎ Found k) h (candidate b Six min max) p (inr (one Six)) in
+          rw (pair-is b h min max) (smaller-one (λ k. (k ≡ start) ⊎ Found k) _ (candidate b Four min max) six (inr (one Four)))
 
 -- ---- the first two bytes of a block are the pair's, in the order of its mode, so they say which pair and which mode it is
 module _ (b : List Float) where

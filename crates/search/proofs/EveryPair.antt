@@ -16,6 +16,7 @@ use Rattle.end_points.specs.EndPoints.{ofBytes, exchanged}
 use Rattle.palette.specs.declared.Kind.{Kind}
 use Rattle.palette.specs.declared.Kind.the-variants.{Six, Four}
 use Rattle.coding.specs.declared.Coded.{Coded}
+use Rattle.coding.specs.Coding.{smaller}
 use Rattle.search.specs.Search.{tried, pairTried, maxesTried, firstMax, minsTried}
 use Rattle.search.specs.Covered.{pairError, pairBytes}
 
@@ -34,40 +35,29 @@ first-from least min max = go (ltb least (min + 1)) refl
     go true e h = let l : least < min + 1 = ltb-true least (min + 1) e in (omega arith, omega arith)
     go false e h = let l : min + 1 ≤ least = ltb-false least (min + 1) e in (h, omega arith)
 
--- ---- what is held, or the new one if its error is strictly smaller
-abbrev pub kept : Coded → Coded → Coded
-kept best new = cond (lt (new .error) (best .error)) new best
-
--- x is not below what is held
+-- ---- x is not below what is held
 abbrev pub NotBelow : Float → Coded → Type 0
 NotBelow x best = lt x (best .error) ≡ false
 
-pub kept-below : (x : Float) (best new : Coded) → NotBelow x best → NotBelow x (kept best new)
+pub kept-below : (x : Float) (best new : Coded) → NotBelow x best → NotBelow x (smaller best new)
 kept-below x best new h = go (lt (new .error) (best .error)) refl
   where
     go : (t : Bool) → lt (new .error) (best .error) ≡ t → NotBelow x (cond t new best)
     go true e = ⊎-elim (λ k. clash (lt-trans x (new .error) (best .error) k e) h) (λ k. k) (either (lt x (new .error)))
     go false e = h
 
-pub kept-own : (best new : Coded) → NotBelow (new .error) (kept best new)
+pub kept-own : (best new : Coded) → NotBelow (new .error) (smaller best new)
 kept-own best new = go (lt (new .error) (best .error)) refl
   where
     go : (t : Bool) → lt (new .error) (best .error) ≡ t → NotBelow (new .error) (cond t new best)
     go true e = lt-irrefl (new .error)
     go false e = e
 
-pub kept-one : (P : Coded → Type 0) (best new : Coded) → P best → P new → P (kept best new)
-kept-one P best new p q = go (lt (new .error) (best .error))
-  where
-    go : (t : Bool) → P (cond t new best)
-    go true = q
-    go false = p
-
 module _ (b : List Float) where
   abbrev pub candidate : Kind → ℕ → ℕ → Coded
   candidate kind min max = record { bytes = pairBytes kind b min max; error = pairError kind b min max }
 
-  pub pair-is : (best : Coded) (min max : ℕ) → pairTried b best min max ≡ kept (kept best (candidate Six min max)) (candidate Four min max)
+  pub pair-is : (best : Coded) (min max : ℕ) → pairTried b best min max ≡ smaller (smaller best (candidate Six min max)) (candidate Four min max)
   unfolding pairTried tried ofBytes exchanged
   pair-is best min max = refl
 

@@ -46,12 +46,8 @@ not-below-larger e a c p q = go (lt c a)
 module _ (b : List Float) (min : ℕ) where
   pub pair-row : (max : ℕ) (kind : Kind) → lt (pairError kind b min max) (rowFloor b (valueOf min false) (valueOf max false)) ≡ false
   unfolding rowFloor ofBytes
-  pair-row max Six =
-      not-below-lesser _ (firstRowError Six b (valueOf max false) (valueOf min false)) (firstRowError Four b (valueOf min false) (valueOf max false))
-      (inl (row-floor Six b (valueOf max false) (valueOf min false)))
-  pair-row max Four =
-      not-below-lesser _ (firstRowError Six b (valueOf max false) (valueOf min false)) (firstRowError Four b (valueOf min false) (valueOf max false))
-      (inr (row-floor Four b (valueOf min false) (valueOf max false)))
+  pair-row max Six = not-below-lesser _ (firstRowError Six b _ _) (firstRowError Four b _ _) (inl (row-floor Six b (valueOf max false) (valueOf min false)))
+  pair-row max Four = not-below-lesser _ (firstRowError Six b _ _) (firstRowError Four b _ _) (inr (row-floor Four b (valueOf min false) (valueOf max false)))
 
   -- ---- as the code raises them
   pub floors-start : Floors b min (maxFloors b)

@@ -22,11 +22,12 @@ use Rattle.palette.specs.declared.Kind.the-variants.{Six, Four}
 use Rattle.palette.specs.Palettes.{entry, values4, valuesOf}
 use Rattle.palette.proofs.ErrorFloor.{error-floor}
 use Rattle.coding.specs.declared.Coded.{Coded}
+use Rattle.coding.specs.Coding.{smaller}
 use Rattle.search.specs.Search.{pairTried, maxesTried}
 use Rattle.search.specs.Covered.{pairError}
 use Rattle.search.specs.Floor.{margin, beyond, atLeast, floorOf, minFloor, maxFloor}
 use Rattle.search.proofs.Between.{Between, six-values, four-values}
-use Rattle.search.proofs.EveryPair.{kept, candidate, pair-is, maxes-keep}
+use Rattle.search.proofs.EveryPair.{candidate, pair-is, maxes-keep}
 
 -- ---- one sample
 beyond-far : (low high v p : Float) → le low v ≡ true → le v high ≡ true → lt (squared (v ⊖ p)) (squared (beyond low high p)) ≡ false
@@ -91,7 +92,7 @@ module _ (b : List Float) where
       → pairTried b best min max ≡ best
   pair-passed best floor min max h each = rw (pair-is b best min max, stays Six, stays Four)
     where
-      stays : (kind : Kind) → kept best (candidate b kind min max) ≡ best
+      stays : (kind : Kind) → smaller best (candidate b kind min max) ≡ best
       stays kind = go (lt (pairError kind b min max) (best .error)) refl
         where
           go : (t : Bool) → lt (pairError kind b min max) (best .error) ≡ t → cond t (candidate b kind min max) best ≡ best

@@ -11,9 +11,10 @@ use Rattle.floats.proofs.Tests.{clash}
 use Rattle.floats.proofs.Order.{lt-left, lt-cotrans}
 use Rattle.palette.specs.declared.Kind.the-variants.{Six, Four}
 use Rattle.coding.specs.declared.Coded.{Coded}
+use Rattle.coding.specs.Coding.{smaller}
 use Rattle.search.specs.Search.{pairTried, minsTried}
 use Rattle.search.specs.Covered.{pairError}
-use Rattle.search.proofs.EveryPair.{first-le, kept, candidate, pair-is, mins-below, mins-both}
+use Rattle.search.proofs.EveryPair.{first-le, candidate, pair-is, mins-below, mins-both}
 
 abbrev from : Float → Coded
 from x = record { bytes = 0; error = x }
@@ -29,8 +30,8 @@ top (fin s m e) = refl
 abbrev Alike : Float → Coded → Coded → Type 0
 Alike x g h = (g ≡ h) ⊎ ((g .error ≡ x) × (lt (h .error) x ≡ false) × (isNan (h .error) ≡ false))
 
-kept-alike : (x : Float) (g h new : Coded) → Alike x g h → Alike x (kept g new) (kept h new)
-kept-alike x g h new (inl e) = inl (ap (λ (k : Coded). kept k new) e)
+kept-alike : (x : Float) (g h new : Coded) → Alike x g h → Alike x (smaller g new) (smaller h new)
+kept-alike x g h new (inl e) = inl (ap (λ (k : Coded). smaller k new) e)
 kept-alike x g h new (inr (e, n, r)) = go (lt (new .error) (g .error)) refl (lt (new .error) (h .error)) refl
   where
     at : (t : Bool) → lt (new .error) (g .error) ≡ t → lt (new .error) x ≡ t

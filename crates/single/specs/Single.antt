@@ -7,10 +7,12 @@ use Rattle.floats.specs.Helpers.{absOf}
 use Rattle.index_list.specs.Indexes.{filledTo}
 use Rattle.index_list.specs.Layout.{packed}
 use Rattle.end_points.specs.declared.EndPoints.{EndPoints}
-use Rattle.end_points.specs.EndPoints.{closest, inter6, inter4}
+use Rattle.end_points.specs.EndPoints.{closest}
 use Rattle.block.specs.Samples.{perPixel}
+use Rattle.palette.specs.declared.Kind.{Kind}
 use Rattle.palette.specs.declared.Kind.the-variants.{Six, Four}
-use Rattle.coding.specs.Coding.{ruleOf, coded}
+use Rattle.coding.specs.declared.Coded.{Coded}
+use Rattle.coding.specs.Coding.{smaller, ruleOf, endsIn, coded}
 
 -- BC4_EPSILON, 1 / 65536
 abbrev pub bc4Epsilon : Float
@@ -20,14 +22,16 @@ bc4Epsilon = bits 0x3780_0000
 abbrev pub uniform : EndPoints → ℕ → ℕ
 uniform e k = packed (e .c0) (e .c1) (filledTo (λ i. k) 16)
 
--- the nearer of the two palettes around v, the six-value one if neither is
-unfoldable pub nearerPalette : Float → Bool → ℕ
-nearerPalette v snorm =
-    let e6 = inter6 v v snorm in
-    let e4 = inter4 v v snorm in
-    let k6 = ruleOf Six e6 v in
-    let k4 = ruleOf Four e4 v in
-    cond (lt (k4 .error) (k6 .error)) (uniform e4 (k4 .index)) (uniform e6 (k6 .index))
+-- the palette around v in a mode: the index of its nearest value, and how far that is
+unfoldable pub around : Kind → Float → Bool → Coded
+around kind v snorm =
+    let e = endsIn kind snorm (record { 0 = v; 1 = v }) in
+    let k = ruleOf kind e v in
+    record { bytes = uniform e (k .index); error = k .error }
+
+-- the nearer of the two, the six-value one if neither is
+abbrev pub nearerPalette : Float → Bool → ℕ
+nearerPalette v snorm = smaller (around Six v snorm) (around Four v snorm) .bytes
 
 -- One level if that is near enough; else a dithered block, or the nearest value of a palette.
 unfoldable pub singleColor : Float → Bool → Bool → ℕ

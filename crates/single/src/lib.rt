@@ -5,6 +5,7 @@ ghost use Prim.Native.Nat.{_<_};
 ghost use lib.Ieee.{le};
 ghost use Rattle.floats.specs.Arithmetic.{f0, f1};
 ghost use Rattle.single.specs.Single.{uniform as uniformOf, nearerPalette, singleColor};
+use coding::Coded;
 use end_points::EndPoints;
 use index_list::IndexList;
 use palette::Kind;
@@ -30,10 +31,15 @@ fn nearer_palette(value: f32, snorm: bool) -> u64
     let map = Inter6Palette::INDEX_MAP;
     let k6 = Inter6Palette::from_endpoints(e6).closest(&map, value);
     let k4 = Inter4Palette::from_endpoints(e4).closest(value);
-    if k4.error < k6.error {
-        return uniform(e4, k4.index);
-    }
-    uniform(e6, k6.index)
+    let six = Coded {
+        bytes: uniform(e6, k6.index),
+        error: k6.error,
+    };
+    let four = Coded {
+        bytes: uniform(e4, k4.index),
+        error: k4.error,
+    };
+    coding::smaller(six, four).bytes
 }
 
 // The value is the middle of two samples, which entry clamped.

@@ -16,14 +16,14 @@ returns c = rw (← c .before .six-only .ensures, c .if1 .taken, c .before .befo
 compress-inter4-requires : tie.Need-compress-inter4-requires
 compress-inter4-requires c κs = search needs
 
-better-bytes-requires : tie.Need-better-bytes-requires
-better-bytes-requires c κs = search needs
+smaller-requires : tie.Need-smaller-requires
+smaller-requires c κs = search needs
 
 returns-2 : tie.Need-returns-2
 unfolding compressedOf
 returns-2 c =
     let k = c .before .before .before in
-    rw (← k .six-only .ensures, c .before .before .if1 .left, c .better-bytes .ensures, c .before .compress-inter4 .ensures, k .before .compress-inter6 .ensures)
+    rw (← k .six-only .ensures, c .before .before .if1 .left, c .smaller .ensures, c .before .compress-inter4 .ensures, k .before .compress-inter6 .ensures)
 
 pub compressed-of-spec : {M : Type 1} → statement M
 compressed-of-spec =
@@ -33,5 +33,5 @@ compressed-of-spec =
     six-only-requires
     returns
     compress-inter4-requires
-    better-bytes-requires
+    smaller-requires
     returns-2)

@@ -1,5 +1,5 @@
-use Rattle.single.proofs.Steps.{nearer-palette-is}
 use Rattle.palette.proofs.ClosestLaws.{closest6-lt, closest4-lt}
+use Rattle.single.specs.Single.{around}
 use borrow.Author.Needs.{needs}
 use Rattle.single.proofs.nearer_palette.Statement.{statement}
 use Rattle.single.proofs.nearer_palette.Tie as tie
@@ -23,36 +23,32 @@ closest-requires-2 : tie.Need-closest-requires-2
 closest-requires-2 c κs = search needs
 
 uniform-requires : tie.Need-uniform-requires
-uniform-requires c κs =
-    let k = c .before .before .before in
-    rw (k .closest2 .ensures) (closest4-lt _ _)
-
-returns : tie.Need-returns
-returns c =
-    let k = c .before .before .before .before in
-    let m = k .before .before in
-    let e = m .before .before in
-    rw (
-      nearer-palette-is _ _ (e .before .before .new-inter6 .result) (e .before .new-inter4 .result) (e .from-endpoints .result) (k .before .from-endpoints2 .result .colors) (m .closest .result) (k .closest2 .result)
-          (e .before .before .new-inter6 .ensures) (e .before .new-inter4 .ensures) (e .from-endpoints .ensures) (k .before .from-endpoints2 .ensures) (m .closest .ensures) (k .closest2 .ensures),
-      c .before .if1 .taken,
-    ) (c .uniform .ensures)
+uniform-requires c κs = rw (c .before .before .closest .ensures) (closest6-lt _ _)
 
 uniform-requires-2 : tie.Need-uniform-requires-2
-uniform-requires-2 c κs =
-    let k = c .before .before .before in
-    rw (k .before .before .closest .ensures) (closest6-lt _ _)
+uniform-requires-2 c κs = rw (c .before .closest2 .ensures) (closest4-lt _ _)
 
-returns-2 : tie.Need-returns-2
-returns-2 c =
-    let k = c .before .before .before .before in
+smaller-requires : tie.Need-smaller-requires
+smaller-requires c κs = search needs
+
+returns : tie.Need-returns
+unfolding around
+returns c =
+    let u = c .before in
+    let k = u .before .before in
     let m = k .before .before in
-    let e = m .before .before in
+    let p = m .before .before in
     rw (
-      nearer-palette-is _ _ (e .before .before .new-inter6 .result) (e .before .new-inter4 .result) (e .from-endpoints .result) (k .before .from-endpoints2 .result .colors) (m .closest .result) (k .closest2 .result)
-          (e .before .before .new-inter6 .ensures) (e .before .new-inter4 .ensures) (e .from-endpoints .ensures) (k .before .from-endpoints2 .ensures) (m .closest .ensures) (k .closest2 .ensures),
-      c .before .if1 .left,
-    ) (c .uniform2 .ensures)
+      c .smaller .ensures,
+      u .uniform2 .ensures,
+      u .before .uniform .ensures,
+      k .closest2 .ensures,
+      k .before .from-endpoints2 .ensures,
+      m .closest .ensures,
+      p .from-endpoints .ensures,
+      p .before .new-inter4 .ensures,
+      p .before .before .new-inter6 .ensures,
+    )
 
 pub nearer-palette-spec : {M : Type 1} → statement M
 nearer-palette-spec =
@@ -65,6 +61,6 @@ nearer-palette-spec =
     from-endpoints-requires-2
     closest-requires-2
     uniform-requires
-    returns
     uniform-requires-2
-    returns-2)
+    smaller-requires
+    returns)

@@ -17,20 +17,14 @@ loop-holds : tie.Need-loop-holds Inv-loop μ-loop
 unfolding placedTo
 loop-holds c = (search needs, refl)
 
-mul-not-above : tie.Need-mul-not-above Inv-loop μ-loop
-mul-not-above c = search needs
+mul-x : tie.Need-mul-x Inv-loop μ-loop
+mul-x c = search needs
 
-element-copy-out-not-above : tie.Need-element-copy-out-not-above Inv-loop μ-loop
-element-copy-out-not-above c = search needs
+element-copy-out-x : tie.Need-element-copy-out-x Inv-loop μ-loop
+element-copy-out-x c = search needs
 
 not-above-requires : tie.Need-not-above-requires Inv-loop μ-loop
 not-above-requires c κs = search needs
-
-mul-min : tie.Need-mul-min Inv-loop μ-loop
-mul-min c = search needs
-
-element-copy-out-min : tie.Need-element-copy-out-min Inv-loop μ-loop
-element-copy-out-min c = search needs
 
 min-requires : tie.Need-min-requires Inv-loop μ-loop
 min-requires c κs = search needs
@@ -46,7 +40,7 @@ loop-less c = search needs
 
 loop-again : tie.Need-loop-again Inv-loop μ-loop
 loop-again c =
-    let n = c .before .before .before in
+    let n = c .before .before in
     let h = n .before .before .before in
     let a = h .before .args in
     (search needs, rw (c .pick .ensures, c .before .min .ensures, n .not-above .ensures, h .loop .inv .1) (sym (placed-more (a .b .now) (a .k) (h .loop .i))))
@@ -64,11 +58,9 @@ placed-spec =
     Inv-loop
     μ-loop
     loop-holds
-    mul-not-above
-    element-copy-out-not-above
+    mul-x
+    element-copy-out-x
     not-above-requires
-    mul-min
-    element-copy-out-min
     min-requires
     pick-requires
     add-i
