@@ -1,13 +1,12 @@
 -- One fit of `fitted` worked out lane by lane, where every blend is above -1: `lanes-fitted` in proofs/ says that the ends are the same.
 use mathlib.Core.List.{List, [], _∷_}
-use mathlib.Core.Bool.{Bool, _&&_}
-use Prim.Native.Nat.{ℕ, _+_}
+use mathlib.Core.Bool.{Bool, true, _&&_}
+use Prim.Native.Nat.{ℕ, zero, suc, _+_}
 use lib.Ieee.{Float, lt, neg}
 use Rattle.floats.specs.Arithmetic.{_⊕_, _⊖_, _⊗_, squared, f1}
 use Rattle.floats.specs.Helpers.{clampOf}
 use Rattle.floats.specs.declared.Pair.{Pair}
-use Rattle.block.specs.Samples.{pixelAt, tabulate, perPixel}
-use Rattle.block.specs.Orders.{downLane}
+use Rattle.block.specs.Samples.{pixelAt, tabulate}
 use Rattle.palette.specs.declared.inter6.Inter6Palette.{Inter6Palette}
 use Rattle.palette.specs.Palettes.{inter6Palette}
 use Rattle.palette.specs.Closest.{blend}
@@ -48,13 +47,21 @@ laneAt p b j = laneOf p (pixelAt b j) (pixelAt b (j + 4)) (pixelAt b (j + 8)) (p
 abbrev pub perLane : (ℕ → Float) → List Float
 perLane f = tabulate f 0 4
 
+-- in the first j lanes
+unfoldable pub aboveTo : Inter6Palette → List Float → ℕ → Bool
+aboveTo p b zero = true
+aboveTo p b (suc j) = aboveTo p b j && laneAt p b j .above
+
 unfoldable pub weighed : Inter6Palette → List Float → Weighed
 weighed p b = record {
-  w = perPixel (λ i. weightOf p (pixelAt b i));
+  w0 = perLane (λ j. laneAt p b j .w0);
+  w1 = perLane (λ j. laneAt p b j .w1);
+  w2 = perLane (λ j. laneAt p b j .w2);
+  w3 = perLane (λ j. laneAt p b j .w3);
   ww = perLane (λ j. laneAt p b j .ww);
   wv = perLane (λ j. laneAt p b j .wv);
   vv = perLane (λ j. laneAt p b j .vv);
-  above = laneAt p b 0 .above && laneAt p b 1 .above && laneAt p b 2 .above && laneAt p b 3 .above;
+  above = aboveTo p b 4;
 }
 
 -- ---- of the block: the lanes' sums as (x + y) + (z + w)
@@ -64,17 +71,19 @@ across s = (pixelAt s 0 ⊕ pixelAt s 1) ⊕ (pixelAt s 2 ⊕ pixelAt s 3)
 unfoldable pub matrix : Weighed → WeightMatrix
 matrix g = orMean (fromD (across (g .ww)) (across (g .wv)) (across (g .vv)))
 
-abbrev pub lineLane : List Float → List Float → Float → Float → ℕ → Float
-lineLane b w e d j = downLane _⊕_ (λ i. pixelAt b i ⊗ (e ⊕ d ⊗ pixelAt w i)) j
+abbrev pub lineLane : List Float → Weighed → Float → Float → ℕ → Float
+lineLane b g e d j =
+    let at : ℕ → List Float → Float = λ i w. pixelAt b i ⊗ (e ⊕ d ⊗ pixelAt w j) in
+    at j (g .w0) ⊕ at (j + 4) (g .w1) ⊕ at (j + 8) (g .w2) ⊕ at (j + 12) (g .w3)
 
-abbrev pub lineLanes : List Float → List Float → Float → Float → List Float
-lineLanes b w e d = lineLane b w e d 0 ∷ lineLane b w e d 1 ∷ lineLane b w e d 2 ∷ lineLane b w e d 3 ∷ []
+abbrev pub lineLanes : List Float → Weighed → Float → Float → List Float
+lineLanes b g e d = lineLane b g e d 0 ∷ lineLane b g e d 1 ∷ lineLane b g e d 2 ∷ lineLane b g e d 3 ∷ []
 
 unfoldable pub fitLanes : List Float → Pair → Lanes
 fitLanes b p =
     let g = weighed (inter6Palette (p .0) (p .1)) b in
     let m = matrix g in
-    record { first = lineLanes b (g .w) (m .e01) (m .«e00_01»); second = lineLanes b (g .w) (m .e11) (m .«e10_11»); above = g .above }
+    record { first = lineLanes b g (m .e01) (m .«e00_01»); second = lineLanes b g (m .e11) (m .«e10_11»); above = g .above }
 
 abbrev pub ends : Lanes → Pair
 ends l = record { 0 = clampOf (across (l .first)); 1 = clampOf (across (l .second)) }
