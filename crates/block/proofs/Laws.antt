@@ -29,7 +29,7 @@ same-cond false x = refl
 
 -- a scan that starts at a, of samples that all count as a
 stays : (op : Float → Float → Float) (a : Float) (g : ℕ → Float) → op a a ≡ a → ((i : ℕ) → i < 16 → g i ≡ a) → element op (downFrom op a g) ≡ a
-unfolding element downFrom
+unfolding element
 stays op a g e each = simp (lane 0 (omega arith), lane 1 (omega arith), lane 2 (omega arith), lane 3 (omega arith), e)
   where
     lane : (j : ℕ) → j < 4 → downFrom op a g j ≡ a

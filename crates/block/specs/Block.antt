@@ -2,7 +2,7 @@
 use mathlib.Core.Path.{_≡_}
 use mathlib.Core.List.{List}
 use mathlib.Core.Bool.{true, cond}
-use Prim.Native.Nat.{ℕ, _+_, _<_}
+use Prim.Native.Nat.{ℕ, _<_}
 use lib.Ieee.{Float, le}
 use Rattle.floats.specs.Arithmetic.{_⊖_, _⊗_, bits, f0, f1}
 use Rattle.floats.specs.Helpers.{laneMin, laneMax, entryClamp}
@@ -52,14 +52,8 @@ mean b = sumInPairs b ⊗ sixteenth
 abbrev pub joined : Pair → Pair → Pair
 joined a b = record { 0 = laneMin (a .0) (b .0); 1 = laneMax (a .1) (b .1) }
 
-abbrev pub down : Float → Float → Float → Float → Pair
-down x y z w = let both : Float → Pair = λ v. record { 0 = v; 1 = v } in joined (joined (joined (both x) (both y)) (both z)) (both w)
+abbrev pub both : Float → Pair
+both x = record { 0 = x; 1 = x }
 
-abbrev pub step : Float → Pair → Float → Pair
-step threshold m x = joined m (record { 0 = cond (le threshold x) x f1; 1 = cond (le x (f1 ⊖ threshold)) x f0 })
-
-abbrev pub downWithin : Float → Float → Float → Float → Float → Pair
-downWithin threshold x y z w = let next = step threshold in next (next (next (next (record { 0 = f1; 1 = f0 }) x) y) z) w
-
-abbrev pub ofLane : (Float → Float → Float → Float → Pair) → List Float → ℕ → Pair
-ofLane f b j = f (pixelAt b j) (pixelAt b (j + 4)) (pixelAt b (j + 8)) (pixelAt b (j + 12))
+abbrev pub counted : Float → Float → Pair
+counted threshold x = record { 0 = cond (le threshold x) x f1; 1 = cond (le x (f1 ⊖ threshold)) x f0 }

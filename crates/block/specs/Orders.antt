@@ -14,11 +14,11 @@ use Rattle.floats.specs.Arithmetic.{_⊕_, squared, f0}
 use Rattle.block.specs.Samples.{pixelAt}
 
 -- down lane j of what g gives for each pixel
-abbrev pub downLane : (Float → Float → Float) → (ℕ → Float) → ℕ → Float
+abbrev pub downLane : {A : Type 0} → (A → A → A) → (ℕ → A) → ℕ → A
 downLane op g j = op (op (op (g j) (g (j + 4))) (g (j + 8))) (g (j + 12))
 
 -- the same from a
-unfoldable pub downFrom : (Float → Float → Float) → Float → (ℕ → Float) → ℕ → Float
+abbrev pub downFrom : {A : Type 0} → (A → A → A) → A → (ℕ → A) → ℕ → A
 downFrom op a g j = op (op (op (op a (g j)) (g (j + 4))) (g (j + 8))) (g (j + 12))
 
 -- Vec4::min_element and max_element: x against (y against (z against w))

@@ -1,8 +1,10 @@
 // bc4.rs: Block. The Rust's four Vec4 are sixteen floats here, pixel i in lane i % 4: a loop over them vectorises.
 ghost use mathlib.Core.Path.{_≡_};
 ghost use Prim.Native.Nat.{_<_};
-ghost use Rattle.block.specs.Orders.{sumInOrder, sumInPairs, sumOfSquares};
-ghost use Rattle.block.specs.Block.{entered, minMax, minMaxWithThreshold, mean as meanOf, joined as joinedOf, down as downOf, step as stepOf, downWithin, ofLane};
+ghost use Rattle.floats.specs.Arithmetic.{f0, f1};
+ghost use Rattle.block.specs.Samples.{pixelAt};
+ghost use Rattle.block.specs.Orders.{downLane, downFrom, sumInOrder, sumInPairs, sumOfSquares};
+ghost use Rattle.block.specs.Block.{entered, minMax, minMaxWithThreshold, mean as meanOf, joined as joinedOf, both, counted};
 use floats::Pair;
 
 pub fn from_raw(samples: &[f32; 16]) -> [f32; 16]
@@ -32,7 +34,7 @@ fn across(x: Pair, y: Pair, z: Pair, w: Pair) -> Pair
 }
 
 fn down(x: f32, y: f32, z: f32, w: f32) -> Pair
-    ensures { λ r. ⌜ r ≡ downOf x y z w ⌝ }
+    ensures { λ r. ⌜ r ≡ joinedOf (joinedOf (joinedOf (both x) (both y)) (both z)) (both w) ⌝ }
 {
     joined(
         joined(joined(Pair(x, x), Pair(y, y)), Pair(z, z)),
@@ -42,7 +44,7 @@ fn down(x: f32, y: f32, z: f32, w: f32) -> Pair
 
 fn lane(b: &[f32; 16], j: usize) -> Pair
     requires { ⌜ j < 4 ⌝ }
-    ensures { λ r. ⌜ r ≡ ofLane downOf (now (b .entry)) j ⌝ }
+    ensures { λ r. ⌜ r ≡ downLane joinedOf (λ i. both (pixelAt (now (b .entry)) i)) j ⌝ }
 {
     down(b[j], b[j + 4], b[j + 8], b[j + 12])
 }
@@ -56,7 +58,7 @@ pub fn min_max(b: &[f32; 16]) -> Pair
 // ---- with a threshold
 
 fn step(threshold: f32, m: Pair, x: f32) -> Pair
-    ensures { λ r. ⌜ r ≡ stepOf threshold m x ⌝ }
+    ensures { λ r. ⌜ r ≡ joinedOf m (counted threshold x) ⌝ }
 {
     joined(
         m,
@@ -68,7 +70,7 @@ fn step(threshold: f32, m: Pair, x: f32) -> Pair
 }
 
 fn down_within(threshold: f32, x: f32, y: f32, z: f32, w: f32) -> Pair
-    ensures { λ r. ⌜ r ≡ downWithin threshold x y z w ⌝ }
+    ensures { λ r. ⌜ (let c = counted threshold in r ≡ joinedOf (joinedOf (joinedOf (joinedOf (record { 0 = f1; 1 = f0 }) (c x)) (c y)) (c z)) (c w)) ⌝ }
 {
     let upper = step(threshold, step(threshold, Pair(1.0, 0.0), x), y);
     step(threshold, step(threshold, upper, z), w)
@@ -76,7 +78,7 @@ fn down_within(threshold: f32, x: f32, y: f32, z: f32, w: f32) -> Pair
 
 fn lane_within(b: &[f32; 16], threshold: f32, j: usize) -> Pair
     requires { ⌜ j < 4 ⌝ }
-    ensures { λ r. ⌜ r ≡ ofLane (downWithin threshold) (now (b .entry)) j ⌝ }
+    ensures { λ r. ⌜ r ≡ downFrom joinedOf (record { 0 = f1; 1 = f0 }) (λ i. counted threshold (pixelAt (now (b .entry)) i)) j ⌝ }
 {
     down_within(threshold, b[j], b[j + 4], b[j + 8], b[j + 12])
 }

@@ -17,7 +17,7 @@ use Rattle.bcn_util.specs.declared.least_squares.WeightMatrix.{WeightMatrix}
 use Rattle.bcn_util.specs.LeastSquares.{dotInPairs, complement, matrixOf, line, leastSquares}
 use Rattle.fit.specs.declared.Lanes.{Lanes}
 use Rattle.fit.specs.Fit.{fitted}
-use Rattle.fit.specs.Lanes.{weightOf, aboveOf, laneOf, laneAt, weighed, across, matrix, lineLanes, fitLanes, ends}
+use Rattle.fit.specs.Lanes.{weightOf, aboveOf, laneOf, laneAt, aboveTo, weighed, across, matrix, lineLanes, fitLanes, ends}
 
 -- ---- every blend is above -1
 both-true : (s t : Bool) → (s && t) ≡ true → (s ≡ true) × (t ≡ true)
@@ -33,7 +33,7 @@ four-true s t u v h =
 
 module _ (p : Inter6Palette) (b : List Float) where
   each-above : weighed p b .above ≡ true → (i : ℕ) → i < 16 → aboveOf p (pixelAt b i) ≡ true
-  unfolding weighed laneOf
+  unfolding weighed laneOf aboveTo
   each-above h = all-lanes _ (λ j l. four-true _ _ _ _ (each-of-four (λ j. laneAt p b j .above ≡ true) (four-true _ _ _ _ h) j l))
 
   weights-above : weighed p b .above ≡ true → perPixel (λ i. weightOf p (pixelAt b i)) ≡ weights p b
@@ -45,21 +45,20 @@ module _ (p : Inter6Palette) (b : List Float) where
   unfolding matrix weighed laneOf matrixOf dotInPairs complement tabulate
   matrix-same = refl
 
-line-same : (b w : List Float) (e d : Float) → across (lineLanes b w e d) ≡ dotInPairs b (line e d w)
-unfolding lineLanes dotInPairs line tabulate
-line-same b w e d = refl
+  line-same : (e d : Float) → across (lineLanes b (weighed p b) e d) ≡ dotInPairs b (line e d (perPixel (λ i. weightOf p (pixelAt b i))))
+  unfolding weighed laneOf dotInPairs line tabulate
+  line-same e d = refl
 
 -- what the lanes of the weights w and the matrix m end in
 abbrev endsBy : List Float → List Float → WeightMatrix → Pair
 endsBy b w m = record { 0 = clampOf (dotInPairs b (line (m .e01) (m .«e00_01») w)); 1 = clampOf (dotInPairs b (line (m .e11) (m .«e10_11») w)) }
 
 lanes-ends : (b : List Float) (p : Pair) → let q = inter6Palette (p .0) (p .1) in ends (fitLanes b p) ≡ endsBy b (perPixel (λ i. weightOf q (pixelAt b i))) (matrix (weighed q b))
-unfolding fitLanes weighed
+unfolding fitLanes
 lanes-ends b p =
     let q = inter6Palette (p .0) (p .1) in
-    let w = perPixel (λ i. weightOf q (pixelAt b i)) in
     let m = matrix (weighed q b) in
-    ap₂ (λ (x y : Float). record { 0 = clampOf x; 1 = clampOf y }) (line-same b w (m .e01) (m .«e00_01»)) (line-same b w (m .e11) (m .«e10_11»))
+    ap₂ (λ (x y : Float). record { 0 = clampOf x; 1 = clampOf y }) (line-same q b (m .e01) (m .«e00_01»)) (line-same q b (m .e11) (m .«e10_11»))
 
 ends-fitted : (b : List Float) (p : Pair) → fitLanes b p .above ≡ true → ends (fitLanes b p) ≡ fitted b p
 unfolding fitLanes weighed fitted leastSquares

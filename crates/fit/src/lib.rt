@@ -21,9 +21,12 @@ pub struct Lane {
     pub above: bool,
 }
 
-// The sixteen weights, and each lane's sums.
+// The sixteen weights by rows, and each lane's sums.
 pub struct Weighed {
-    pub w: [f32; 16],
+    pub w0: [f32; 4],
+    pub w1: [f32; 4],
+    pub w2: [f32; 4],
+    pub w3: [f32; 4],
     pub ww: [f32; 4],
     pub wv: [f32; 4],
     pub vv: [f32; 4],
@@ -74,33 +77,34 @@ fn weigh_lane(p: Inter6Palette, b: &[f32; 16], j: usize) -> Lane
 fn weigh(p: Inter6Palette, b: &[f32; 16]) -> Weighed
     ensures { λ r. ⌜ r ≡ weighed p (now (b .entry)) ⌝ }
 {
-    let x = weigh_lane(p, b, 0);
-    let y = weigh_lane(p, b, 1);
-    let z = weigh_lane(p, b, 2);
-    let w = weigh_lane(p, b, 3);
+    let mut w0 = [0.0f32; 4];
+    let mut w1 = [0.0f32; 4];
+    let mut w2 = [0.0f32; 4];
+    let mut w3 = [0.0f32; 4];
+    let mut ww = [0.0f32; 4];
+    let mut wv = [0.0f32; 4];
+    let mut vv = [0.0f32; 4];
+    let mut above = true;
+    for j in 0..4usize {
+        let l = weigh_lane(p, b, j);
+        w0[j] = l.w0;
+        w1[j] = l.w1;
+        w2[j] = l.w2;
+        w3[j] = l.w3;
+        ww[j] = l.ww;
+        wv[j] = l.wv;
+        vv[j] = l.vv;
+        above = above & l.above;
+    }
     Weighed {
-        w: [
-            x.w0,
-            y.w0,
-            z.w0,
-            w.w0,
-            x.w1,
-            y.w1,
-            z.w1,
-            w.w1,
-            x.w2,
-            y.w2,
-            z.w2,
-            w.w2,
-            x.w3,
-            y.w3,
-            z.w3,
-            w.w3,
-        ],
-        ww: [x.ww, y.ww, z.ww, w.ww],
-        wv: [x.wv, y.wv, z.wv, w.wv],
-        vv: [x.vv, y.vv, z.vv, w.vv],
-        above: x.above & y.above & z.above & w.above,
+        w0: w0,
+        w1: w1,
+        w2: w2,
+        w3: w3,
+        ww: ww,
+        wv: wv,
+        vv: vv,
+        above: above,
     }
 }
 
@@ -110,26 +114,30 @@ fn across(s: [f32; 4]) -> f32
     (s[0] + s[1]) + (s[2] + s[3])
 }
 
-fn line_lanes(b: &[f32; 16], w: &[f32; 16], e: f32, d: f32) -> [f32; 4]
-    ensures { λ r. ⌜ r ≡ lineLanes (now (b .entry)) (now (w .entry)) e d ⌝ }
+fn line_lanes(b: &[f32; 16], g: Weighed, e: f32, d: f32) -> [f32; 4]
+    ensures { λ r. ⌜ r ≡ lineLanes (now (b .entry)) g e d ⌝ }
 {
+    let w0 = g.w0;
+    let w1 = g.w1;
+    let w2 = g.w2;
+    let w3 = g.w3;
     [
-        b[0] * (e + d * w[0])
-            + b[4] * (e + d * w[4])
-            + b[8] * (e + d * w[8])
-            + b[12] * (e + d * w[12]),
-        b[1] * (e + d * w[1])
-            + b[5] * (e + d * w[5])
-            + b[9] * (e + d * w[9])
-            + b[13] * (e + d * w[13]),
-        b[2] * (e + d * w[2])
-            + b[6] * (e + d * w[6])
-            + b[10] * (e + d * w[10])
-            + b[14] * (e + d * w[14]),
-        b[3] * (e + d * w[3])
-            + b[7] * (e + d * w[7])
-            + b[11] * (e + d * w[11])
-            + b[15] * (e + d * w[15]),
+        b[0] * (e + d * w0[0])
+            + b[4] * (e + d * w1[0])
+            + b[8] * (e + d * w2[0])
+            + b[12] * (e + d * w3[0]),
+        b[1] * (e + d * w0[1])
+            + b[5] * (e + d * w1[1])
+            + b[9] * (e + d * w2[1])
+            + b[13] * (e + d * w3[1]),
+        b[2] * (e + d * w0[2])
+            + b[6] * (e + d * w1[2])
+            + b[10] * (e + d * w2[2])
+            + b[14] * (e + d * w3[2]),
+        b[3] * (e + d * w0[3])
+            + b[7] * (e + d * w1[3])
+            + b[11] * (e + d * w2[3])
+            + b[15] * (e + d * w3[3]),
     ]
 }
 
@@ -153,9 +161,8 @@ fn fit_lanes(b: &[f32; 16], p: Pair) -> Lanes
 {
     let g = weigh(Inter6Palette::new(p.0, p.1), b);
     let m = matrix(g);
-    let w = g.w;
-    let first = line_lanes(b, &w, m.e01, m.e00_01);
-    let second = line_lanes(b, &w, m.e11, m.e10_11);
+    let first = line_lanes(b, g, m.e01, m.e00_01);
+    let second = line_lanes(b, g, m.e11, m.e10_11);
     Lanes {
         first: first,
         second: second,

@@ -8,7 +8,6 @@ use Rattle.floats.specs.Arithmetic.{_⊕_, _⊖_, _⊗_, squared, whole, f1}
 use Rattle.floats.specs.Helpers.{byteUpTo7}
 use Rattle.block.specs.Samples.{pixelAt}
 use Rattle.palette.specs.declared.Kind.{Kind}
-use Rattle.palette.specs.declared.RowIndexes.{RowIndexes}
 use Rattle.palette.specs.declared.inter6.Inter6Palette.{Inter6Palette}
 use Rattle.palette.specs.Palettes.{seventh, indexMap, blended, valuesOf}
 use Rattle.palette.specs.PaletteError.{miss}
@@ -30,13 +29,6 @@ rowSum p x y z w = squared (off6 p x) ⊕ squared (off6 p y) ⊕ squared (off6 p
 
 abbrev pub ofRow : {A : Type 0} → (Float → Float → Float → Float → A) → List Float → ℕ → A
 ofRow f b i = f (pixelAt b (4 * i)) (pixelAt b (4 * i + 1)) (pixelAt b (4 * i + 2)) (pixelAt b (4 * i + 3))
-
--- ---- row i of sixteen indexes
-abbrev pub rowIndexes : List ℕ → ℕ → RowIndexes
-rowIndexes k i = record { x = getD k (4 * i) 0; y = getD k (4 * i + 1) 0; z = getD k (4 * i + 2) 0; w = getD k (4 * i + 3) 0 }
-
-abbrev pub packedRow : RowIndexes → ℕ
-packedRow n = n .x + 8 * n .y + 64 * n .z + 512 * n .w
 
 -- ---- the weight where the blend is above -1, by the cut of `closest` (`weight-above`)
 abbrev pub cutWeight : Float → Float

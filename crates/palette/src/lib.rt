@@ -6,7 +6,7 @@ ghost use Rattle.index_list.specs.Indexes.{filledTo};
 ghost use Rattle.block.specs.Samples.{pixelAt, perPixel};
 ghost use Rattle.block.specs.Orders.{sumInOrder};
 ghost use Rattle.palette.specs.PaletteError.{miss, paletteError};
-ghost use Rattle.palette.specs.Rows.{rowIndexes, packedRow, firstRowSum, firstRowError};
+ghost use Rattle.palette.specs.Rows.{firstRowSum, firstRowError};
 ghost use Rattle.palette.specs.ByKind.{paletteOf, valuesIn};
 
 pub mod error;
@@ -66,7 +66,7 @@ struct RowIndexes {
 
 fn row_indexes(k: &[u32; 16], i: usize) -> RowIndexes
     requires { ⌜ i < 4 ⌝ }
-    ensures { λ r. ⌜ r ≡ rowIndexes (now (k .entry)) i ⌝ }
+    ensures { λ r. ⌜ r ≡ record { x = getD (now (k .entry)) (4 * i) 0; y = getD (now (k .entry)) (4 * i + 1) 0; z = getD (now (k .entry)) (4 * i + 2) 0; w = getD (now (k .entry)) (4 * i + 3) 0 } ⌝ }
 {
     RowIndexes {
         x: k[4 * i],
@@ -78,7 +78,7 @@ fn row_indexes(k: &[u32; 16], i: usize) -> RowIndexes
 
 fn row_code(k: &[u32; 16], i: usize) -> u32
     requires { ⌜ (i < 4) × ((j : ℕ) → j < 16 → getD (now k) j 0 < 8) ⌝ }
-    ensures { λ r. ⌜ (r ≡ packedRow (rowIndexes (now (k .entry)) i)) × (r < 4096) ⌝ }
+    ensures { λ r. ⌜ (r ≡ getD (now (k .entry)) (4 * i) 0 + 8 * getD (now (k .entry)) (4 * i + 1) 0 + 64 * getD (now (k .entry)) (4 * i + 2) 0 + 512 * getD (now (k .entry)) (4 * i + 3) 0) × (r < 4096) ⌝ }
 {
     let n = row_indexes(k, i);
     four(n.x, n.y, n.z, n.w)

@@ -28,11 +28,11 @@ fn at_least(d: f32, pixel: f32) -> f32
 fn sum(b: &[f32; 16], low: f32, high: f32) -> f32
     ensures { λ r. ⌜ r ≡ floorOf (now (b .entry)) low high ⌝ }
 {
-    let mut e = [0.0f32; 16];
+    let mut terms = [0.0f32; 16];
     for i in 0..16usize {
-        e[i] = at_least(beyond(low, high, b[i]), b[i]);
+        terms[i] = at_least(beyond(low, high, b[i]), b[i]);
     }
-    block::sum_in_order(&e)
+    block::sum_in_order(&terms)
 }
 
 pub fn min_floor(b: &[f32; 16], min: u8) -> f32

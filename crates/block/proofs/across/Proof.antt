@@ -12,7 +12,7 @@ joined-requires-3 : tie.Need-joined-requires-3
 joined-requires-3 c κs = search needs
 
 returns : tie.Need-returns
-returns c = rw (c .joined3 .ensures, c .before .joined2 .ensures, c .before .before .joined .ensures)
+returns c = cc
 
 pub across-spec : {M : Type 1} → statement M
 across-spec = tie.close (tie.spec joined-requires joined-requires-2 joined-requires-3 returns)

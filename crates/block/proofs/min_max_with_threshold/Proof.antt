@@ -1,4 +1,4 @@
-use Rattle.block.specs.Orders.{downFrom, element}
+use Rattle.block.specs.Orders.{element}
 use Rattle.block.specs.Block.{minMaxWithThreshold}
 use borrow.Author.Needs.{needs}
 use Rattle.block.proofs.min_max_with_threshold.Statement.{statement}
@@ -20,7 +20,7 @@ across-requires : tie.Need-across-requires
 across-requires c κs = search needs
 
 returns : tie.Need-returns
-unfolding minMaxWithThreshold element downFrom
+unfolding minMaxWithThreshold element
 returns c =
     let l = c .before in
     rw (c .across .ensures, l .lane-within4 .ensures, l .before .lane-within3 .ensures, l .before .before .lane-within2 .ensures, l .before .before .before .lane-within .ensures)

@@ -21,8 +21,8 @@ line-lanes-requires-2 c κs = search needs
 returns : tie.Need-returns
 unfolding fitLanes
 returns c =
-    let m = c .before .before .before .before .before in
-    rw (c .line-lanes2 .ensures, c .before .before .line-lanes .ensures, m .matrix .ensures, m .before .weigh .ensures, m .before .before .new .ensures)
+    let m = c .before .before in
+    rw (c .line-lanes2 .ensures, c .before .line-lanes .ensures, m .matrix .ensures, m .before .weigh .ensures, m .before .before .new .ensures)
 
 pub fit-lanes-spec : {M : Type 1} → statement M
 fit-lanes-spec =

@@ -1,10 +1,9 @@
-use mathlib.Core.Path.{refl, ap, _∙_}
+use mathlib.Core.Path.{refl}
 use Prim.Native.Nat.{ℕ, _-_}
 use native.Mathlib.Omega.{arith}
 use lib.Ieee.{nan}
 use borrow.Author.Needs.{needs}
 use Rattle.block.specs.Samples.{pixelAt}
-use Rattle.block.specs.Orders.{sumInOrder}
 use Rattle.block.proofs.Fill.{Filled, fill-start, fill-step, fill-end}
 use Rattle.palette.specs.PaletteError.{miss}
 use Rattle.palette.proofs.error.sum.Statement.{statement}
@@ -47,7 +46,7 @@ sum-in-order-requires : tie.Need-sum-in-order-requires Inv-loop μ-loop
 sum-in-order-requires c κs = search needs
 
 returns : tie.Need-returns Inv-loop μ-loop
-returns c = c .sum-in-order .ensures ∙ ap sumInOrder (fill-end (c .before .before .before .loop .inv) (omega arith))
+returns c = rw (c .sum-in-order .ensures, fill-end (c .before .before .before .loop .inv) (omega arith))
 
 pub sum-spec : {M : Type 1} → statement M
 sum-spec =

@@ -15,10 +15,10 @@ abbrev term : List Float → Float → Float → ℕ → Float
 term b low high i = atLeast (beyond low high (pixelAt b i)) (pixelAt b i)
 
 abbrev Inv-loop : tie.InvT-loop
-Inv-loop b low high e₀ i₀ e i = Filled nan (term b low high) 16 e i
+Inv-loop b low high terms₀ i₀ terms i = Filled nan (term b low high) 16 terms i
 
 abbrev μ-loop : tie.MeasureT-loop
-μ-loop b low high e₀ i₀ e i = 16 - i
+μ-loop b low high terms₀ i₀ terms i = 16 - i
 
 loop-holds : tie.Need-loop-holds Inv-loop μ-loop
 loop-holds c = fill-start refl
@@ -41,11 +41,11 @@ element-copy-out-at-least c = search needs
 at-least-requires : tie.Need-at-least-requires Inv-loop μ-loop
 at-least-requires c κs = search needs
 
-mul-e : tie.Need-mul-e Inv-loop μ-loop
-mul-e c = search needs
+mul-terms : tie.Need-mul-terms Inv-loop μ-loop
+mul-terms c = search needs
 
-array-write-e : tie.Need-array-write-e Inv-loop μ-loop
-array-write-e c = search needs
+array-write-terms : tie.Need-array-write-terms Inv-loop μ-loop
+array-write-terms c = search needs
 
 add-i : tie.Need-add-i Inv-loop μ-loop
 add-i c = search needs
@@ -78,8 +78,8 @@ sum-spec =
     mul-at-least
     element-copy-out-at-least
     at-least-requires
-    mul-e
-    array-write-e
+    mul-terms
+    array-write-terms
     add-i
     loop-less
     loop-again
