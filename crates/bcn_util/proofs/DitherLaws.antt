@@ -16,7 +16,7 @@ use Rattle.index_list.proofs.Laws.{filled-unset}
 use Rattle.palette.specs.declared.Kind.{Kind}
 use Rattle.palette.specs.declared.Closest.{Closest}
 use Rattle.palette.specs.declared.Indexed.{Indexed}
-use Rattle.palette.specs.Rules.{closestOf}
+use Rattle.palette.specs.Closest.{closestOf}
 use Rattle.palette.proofs.Rules.{closest-lt}
 use Rattle.bcn_util.specs.Diffusion.{sixteenths, weights, given, diffused}
 use Rattle.bcn_util.specs.Dither.{ditherStep, ditherTo}
@@ -52,10 +52,10 @@ module _ (m : List Float) (i : ℕ) (error : Float) where
   diffused-last h = rw (h, and-false (ltb (i % 4) 3), and-false (ltb 0 (i % 4))) refl
 
 -- ---- the indexes are set in order, so the next one is unset
-abbrev pub answered : (Float → Closest) → List Float → ℕ → ℕ
-answered rule b k = rule (pixelAt b k ⊕ pixelAt (ditherTo rule b k .map) k) .index
+abbrev pub indexGiven : (Float → Closest) → List Float → ℕ → ℕ
+indexGiven rule b k = rule (pixelAt b k ⊕ pixelAt (ditherTo rule b k .map) k) .index
 
-pub indexes-filled : (rule : Float → Closest) (b : List Float) (n : ℕ) → ditherTo rule b n .done .indexes .«data» ≡ filledTo (answered rule b) n
+pub indexes-filled : (rule : Float → Closest) (b : List Float) (n : ℕ) → ditherTo rule b n .done .indexes .«data» ≡ filledTo (indexGiven rule b) n
 unfolding ditherTo ditherStep filledTo
 indexes-filled rule b zero = refl
 indexes-filled rule b (suc n) = rw (indexes-filled rule b n)
@@ -69,7 +69,7 @@ module _ {kind : Kind} {c0 c1 : Float} {b : List Float} {i : ℕ} {map : List Fl
   pub reached-unset : indexAt (done .indexes .«data») i ≡ 0
   reached-unset =
       rw (r .done-is, indexes-filled (closestOf kind c0 c1) b i)
-      (filled-unset (answered (closestOf kind c0 c1) b) i (λ k h. closest-lt kind c0 c1 _) i (omega arith))
+      (filled-unset (indexGiven (closestOf kind c0 c1) b) i (λ k h. closest-lt kind c0 c1 _) i (omega arith))
 
   -- `error` is the answer's but for its sign
   pub reached-step : (c : Closest) (error : Float) → c ≡ closestOf kind c0 c1 (pixelAt b i ⊕ pixelAt map i) → squared (c .error) ≡ squared error

@@ -6,7 +6,7 @@ ghost use lib.ListN.{getD};
 ghost use lib.Ieee.{nan};
 ghost use Rattle.floats.specs.Arithmetic.{_⊕_, _⊗_};
 ghost use Rattle.block.specs.Samples.{pixelAt};
-ghost use Rattle.palette.specs.Rules.{closestOf};
+ghost use Rattle.palette.specs.Closest.{closestOf};
 ghost use Rattle.bcn_util.specs.Diffusion.{weights, given, diffused};
 ghost use Rattle.bcn_util.specs.Dither.{blockDither};
 use index_list::IndexList;

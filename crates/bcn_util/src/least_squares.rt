@@ -1,6 +1,6 @@
 // least_squares_weights_f32_vec4.
 ghost use mathlib.Core.Path.{_≡_};
-ghost use Rattle.bcn_util.specs.LeastSquares.{dotInPairs, complement as complementOf, fromD, meanMatrix, orMean, matrixOf, line as lineOf, leastSquares};
+ghost use Rattle.bcn_util.specs.LeastSquares.{dotInPairs, complement as complementOf, fromD, orMean, matrixOf, line as lineOf, leastSquares};
 use floats::Pair;
 
 // f32::EPSILON

@@ -5,9 +5,9 @@ use mathlib.Core.List.{List}
 use mathlib.Core.Bool.{Bool, true, false, cond}
 use Prim.Native.Nat.{ℕ, _+_, _<_}
 use native.Mathlib.Omega.{arith}
-use lib.Ieee.{Float, nan, lt, le}
+use lib.Ieee.{Float, lt, le}
 use Rattle.floats.specs.Arithmetic.{_⊖_, f0, f1}
-use Rattle.floats.specs.Helpers.{laneMin, laneMax, entryClamp}
+use Rattle.floats.specs.Helpers.{laneMin, laneMax}
 use Rattle.floats.proofs.Ranges.{entry-from-0, entry-to-1}
 use Rattle.block.specs.Samples.{pixelAt}
 use Rattle.block.specs.Orders.{downFrom, element}

@@ -49,11 +49,11 @@ abbrev pub mean : List Float → Float
 mean b = sumInPairs b ⊗ sixteenth
 
 -- ---- the code's scan, of the smallest and the largest as a pair
-abbrev pub joined : Pair → Pair → Pair
-joined a b = record { 0 = laneMin (a .0) (b .0); 1 = laneMax (a .1) (b .1) }
+abbrev pub spanned : Pair → Pair → Pair
+spanned a b = record { 0 = laneMin (a .0) (b .0); 1 = laneMax (a .1) (b .1) }
 
-abbrev pub both : Float → Pair
-both x = record { 0 = x; 1 = x }
+abbrev pub alone : Float → Pair
+alone x = record { 0 = x; 1 = x }
 
 abbrev pub counted : Float → Float → Pair
 counted threshold x = record { 0 = cond (le threshold x) x f1; 1 = cond (le x (f1 ⊖ threshold)) x f0 }

@@ -4,7 +4,7 @@ ghost use Prim.Native.Nat.{_<_};
 ghost use Rattle.floats.specs.Arithmetic.{f0, f1};
 ghost use Rattle.block.specs.Samples.{pixelAt};
 ghost use Rattle.block.specs.Orders.{downLane, downFrom, sumInOrder, sumInPairs, sumOfSquares};
-ghost use Rattle.block.specs.Block.{entered, minMax, minMaxWithThreshold, mean as meanOf, joined as joinedOf, both, counted};
+ghost use Rattle.block.specs.Block.{entered, minMax, minMaxWithThreshold, mean as meanOf, spanned as spannedOf, alone, counted};
 use floats::Pair;
 
 pub fn from_raw(samples: &[f32; 16]) -> [f32; 16]
@@ -17,34 +17,34 @@ pub fn from_raw(samples: &[f32; 16]) -> [f32; 16]
     clamped
 }
 
-// ---- smallest and largest, as a pair
+// ---- smallest and largest, as a pair; two pairs are spanned by one
 
 // The largest first: in the other order the compiler takes the two for a vector, and the scan with a threshold gets longer.
-fn joined(a: Pair, b: Pair) -> Pair
-    ensures { λ r. ⌜ r ≡ joinedOf a b ⌝ }
+fn spanned(a: Pair, b: Pair) -> Pair
+    ensures { λ r. ⌜ r ≡ spannedOf a b ⌝ }
 {
     let largest = floats::lane_max(a.1, b.1);
     Pair(floats::lane_min(a.0, b.0), largest)
 }
 
 fn across(x: Pair, y: Pair, z: Pair, w: Pair) -> Pair
-    ensures { λ r. ⌜ r ≡ joinedOf x (joinedOf y (joinedOf z w)) ⌝ }
+    ensures { λ r. ⌜ r ≡ spannedOf x (spannedOf y (spannedOf z w)) ⌝ }
 {
-    joined(x, joined(y, joined(z, w)))
+    spanned(x, spanned(y, spanned(z, w)))
 }
 
 fn down(x: f32, y: f32, z: f32, w: f32) -> Pair
-    ensures { λ r. ⌜ r ≡ joinedOf (joinedOf (joinedOf (both x) (both y)) (both z)) (both w) ⌝ }
+    ensures { λ r. ⌜ r ≡ spannedOf (spannedOf (spannedOf (alone x) (alone y)) (alone z)) (alone w) ⌝ }
 {
-    joined(
-        joined(joined(Pair(x, x), Pair(y, y)), Pair(z, z)),
+    spanned(
+        spanned(spanned(Pair(x, x), Pair(y, y)), Pair(z, z)),
         Pair(w, w),
     )
 }
 
 fn lane(b: &[f32; 16], j: usize) -> Pair
     requires { ⌜ j < 4 ⌝ }
-    ensures { λ r. ⌜ r ≡ downLane joinedOf (λ i. both (pixelAt (now (b .entry)) i)) j ⌝ }
+    ensures { λ r. ⌜ r ≡ downLane spannedOf (λ i. alone (pixelAt (now (b .entry)) i)) j ⌝ }
 {
     down(b[j], b[j + 4], b[j + 8], b[j + 12])
 }
@@ -58,9 +58,9 @@ pub fn min_max(b: &[f32; 16]) -> Pair
 // ---- with a threshold
 
 fn step(threshold: f32, m: Pair, x: f32) -> Pair
-    ensures { λ r. ⌜ r ≡ joinedOf m (counted threshold x) ⌝ }
+    ensures { λ r. ⌜ r ≡ spannedOf m (counted threshold x) ⌝ }
 {
-    joined(
+    spanned(
         m,
         Pair(
             floats::pick(x >= threshold, x, 1.0),
@@ -70,7 +70,7 @@ fn step(threshold: f32, m: Pair, x: f32) -> Pair
 }
 
 fn down_within(threshold: f32, x: f32, y: f32, z: f32, w: f32) -> Pair
-    ensures { λ r. ⌜ (let c = counted threshold in r ≡ joinedOf (joinedOf (joinedOf (joinedOf (record { 0 = f1; 1 = f0 }) (c x)) (c y)) (c z)) (c w)) ⌝ }
+    ensures { λ r. ⌜ (let c = counted threshold in r ≡ spannedOf (spannedOf (spannedOf (spannedOf (record { 0 = f1; 1 = f0 }) (c x)) (c y)) (c z)) (c w)) ⌝ }
 {
     let upper = step(threshold, step(threshold, Pair(1.0, 0.0), x), y);
     step(threshold, step(threshold, upper, z), w)
@@ -78,7 +78,7 @@ fn down_within(threshold: f32, x: f32, y: f32, z: f32, w: f32) -> Pair
 
 fn lane_within(b: &[f32; 16], threshold: f32, j: usize) -> Pair
     requires { ⌜ j < 4 ⌝ }
-    ensures { λ r. ⌜ r ≡ downFrom joinedOf (record { 0 = f1; 1 = f0 }) (λ i. counted threshold (pixelAt (now (b .entry)) i)) j ⌝ }
+    ensures { λ r. ⌜ r ≡ downFrom spannedOf (record { 0 = f1; 1 = f0 }) (λ i. counted threshold (pixelAt (now (b .entry)) i)) j ⌝ }
 {
     down_within(threshold, b[j], b[j + 4], b[j + 8], b[j + 12])
 }

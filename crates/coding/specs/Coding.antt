@@ -10,8 +10,7 @@ use Rattle.palette.specs.declared.Kind.{Kind}
 use Rattle.palette.specs.declared.Kind.the-variants.{Six, Four}
 use Rattle.palette.specs.declared.Closest.{Closest}
 use Rattle.palette.specs.declared.Indexed.{Indexed}
-use Rattle.palette.specs.Closest.{blockClosest}
-use Rattle.palette.specs.Rules.{closestOf}
+use Rattle.palette.specs.Closest.{closestOf, blockClosest}
 use Rattle.bcn_util.specs.Dither.{blockDither}
 use Rattle.coding.specs.declared.Coded.{Coded}
 

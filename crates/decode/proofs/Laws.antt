@@ -1,5 +1,5 @@
 -- The sum of a block error by one pixel more, a decoded sample by its pixel, and the sizes of bytes and indexes.
-use mathlib.Core.Path.{_≡_, sym, ap, _∙_}
+use mathlib.Core.Path.{_≡_, ap}
 use mathlib.Core.List.{List, [], _∷_}
 use mathlib.Core.Bool.{Bool}
 use Prim.Native.Nat.{ℕ, _+_, _*_, _/_, _%_, _^_, _<_}
@@ -9,7 +9,6 @@ use native.Mathlib.Omega.{arith}
 use lib.Ieee.{Float, nan}
 use Rattle.floats.specs.Arithmetic.{_⊕_}
 use lib.Pow.{shr-shr}
-use lib.Seq.{ext-getD}
 use Rattle.index_list.specs.Layout.{byteAt, bytesOf, fromBytes}
 use Rattle.index_list.proofs.Laws.{bits-low, from-bytesOf}
 use Rattle.block.specs.Samples.{pixelAt, perPixel}

@@ -3,7 +3,7 @@ use mathlib.Core.Path.{_≡_, refl, sym, _∙_}
 use mathlib.Core.List.{List}
 use mathlib.Core.Bool.{Bool, true, false, cond, not, _&&_}
 use Prim.Native.Nat.{ℕ}
-use lib.Ieee.{Float, lt}
+use lib.Ieee.{Float}
 use Rattle.floats.specs.declared.Pair.{Pair}
 use Rattle.floats.proofs.Tests.{clash}
 use Rattle.index_list.proofs.Laws.{from-bytesOf}

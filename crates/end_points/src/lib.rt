@@ -1,7 +1,6 @@
 // bc4.rs: EndPoints.
 ghost use mathlib.Core.Path.{_≡_};
 ghost use mathlib.Core.Bool.{true, false};
-ghost use Prim.Native.Nat.{_≤_};
 ghost use lib.Ieee.{le};
 ghost use Rattle.floats.specs.Arithmetic.{f0, f1};
 ghost use Rattle.index_list.specs.Layout.{packed};
@@ -11,7 +10,6 @@ pub mod levels;
 
 use floats::Pair;
 use index_list::IndexList;
-use levels::Levels;
 
 pub struct EndPoints {
     pub c0: u8,

@@ -17,22 +17,11 @@ use Rattle.bc4.specs.declared.Resent.the-variants.{Block as Answered, Refused a
 use Rattle.bc4.specs.declared.Tiled.{Tiled}
 use Rattle.bc4.specs.declared.Tiled.the-variants.{Written, Refused as NotTiled}
 use Rattle.refusal.specs.Refusals.{numberOf, detailOf, answered}
-use Rattle.bc4.specs.Word.{wordOf, encodeByWord, resendByWord, tileByWord}
+use Rattle.bc4.specs.Word.{wordOf}
 
 -- the options word, byte 0 lowest
 abbrev pub wordOfNumber : ℕ → Word
 wordOfNumber options = wordOf (options % 2 ^ 8) (options / 2 ^ 8 % 2 ^ 8) (options / 2 ^ 16 % 2 ^ 8) (options / 2 ^ 24)
-
--- ---- the answers for such a word
-abbrev pub encodeFor : List Float → ℕ → Encoded
-encodeFor samples options = encodeByWord samples (wordOfNumber options)
-
-abbrev pub resendFor : List Float → List ℕ → ℕ → Resent
-resendFor samples held options = resendByWord samples held (wordOfNumber options)
-
--- `room` is the length of the output
-abbrev pub tileFor : List Float → ℕ → ℕ → ℕ → ℕ → Tiled
-tileFor samples width height options room = tileByWord samples width height (wordOfNumber options) room
 
 -- ---- a refusal, or none
 abbrev pub numberIn : Checked → ℕ
@@ -41,17 +30,14 @@ numberIn = answered numberOf 0
 abbrev pub detailAfter : Checked → List ℕ → List ℕ
 detailAfter checked before = answered (λ q. detailOf q before) before checked
 
--- ---- encode block
 abbrev pub blockAfter : Encoded → List ℕ → List ℕ
 blockAfter (Block b) before = bytesOf b
 blockAfter (NotEncoded q) before = before
 
--- ---- block error
 abbrev pub errorAfter : Scored → Float → Float
 errorAfter (Error e) before = e
 errorAfter (NotScored q) before = before
 
--- ---- resend
 abbrev pub heldAfter : Resent → List ℕ → List ℕ
 heldAfter (Answered h) before = bytesOf (h .block)
 heldAfter (NotResent q) before = before
@@ -61,11 +47,9 @@ abbrev pub freshAfter : Resent → ℕ → ℕ
 freshAfter (Answered h) before = cond (h .fresh) 1 0
 freshAfter (NotResent q) before = before
 
--- ---- encode tile
 abbrev pub writtenAfter : Tiled → ℕ → ℕ
 writtenAfter (Written n) before = n
 writtenAfter (NotTiled q) before = before
 
--- ---- block view
 abbrev pub offsetAfter : Checked → ℕ → ℕ → ℕ → ℕ → ℕ
 offsetAfter checked width column row before = answered (λ q. before) (blockAt bc4Size width column row) checked

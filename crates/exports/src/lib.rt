@@ -5,7 +5,8 @@ ghost use mathlib.Core.Bool.{cond};
 ghost use lib.ListN.{length};
 ghost use Rattle.refusal.specs.Refusals.{numberOf, detailOf, firstOf, decodeChecks, viewChecks};
 ghost use Rattle.bc4.specs.Calls.{ofEncoded, ofScored, ofResent, ofTiled, samplesAfter, errorAnswer, outAfter};
-ghost use Rattle.exports.specs.Border.{wordOfNumber, encodeFor, resendFor, tileFor, numberIn, detailAfter, blockAfter, errorAfter, heldAfter, freshAfter, writtenAfter, offsetAfter};
+ghost use Rattle.bc4.specs.Word.{encodeByWord, resendByWord, tileByWord};
+ghost use Rattle.exports.specs.Border.{wordOfNumber, numberIn, detailAfter, blockAfter, errorAfter, heldAfter, freshAfter, writtenAfter, offsetAfter};
 use bc4::Checked;
 use bc4::Encoded;
 use bc4::Refusal;
@@ -49,9 +50,9 @@ pub extern "C" fn bc4_encode_block(
     block: &mut [u8; 8],
     detail: &mut [usize; 4],
 ) -> u32
-    ensures number { λ r. ⌜ r ≡ numberIn (ofEncoded (encodeFor (now (samples .entry)) options)) ⌝ }
-    ensures block { λ _. ⌜ now (block .exit) ≡ blockAfter (encodeFor (now (samples .entry)) options) (now (block .entry)) ⌝ }
-    ensures detail { λ _. ⌜ now (detail .exit) ≡ detailAfter (ofEncoded (encodeFor (now (samples .entry)) options)) (now (detail .entry)) ⌝ }
+    ensures number { λ r. ⌜ r ≡ numberIn (ofEncoded (encodeByWord (now (samples .entry)) (wordOfNumber options))) ⌝ }
+    ensures block { λ _. ⌜ now (block .exit) ≡ blockAfter (encodeByWord (now (samples .entry)) (wordOfNumber options)) (now (block .entry)) ⌝ }
+    ensures detail { λ _. ⌜ now (detail .exit) ≡ detailAfter (ofEncoded (encodeByWord (now (samples .entry)) (wordOfNumber options))) (now (detail .entry)) ⌝ }
 {
     let answer = bc4::word::encode_block(samples, word_in(options));
     match answer {
@@ -113,10 +114,10 @@ pub extern "C" fn bc4_resend(
     fresh: &mut u8,
     detail: &mut [usize; 4],
 ) -> u32
-    ensures number { λ r. ⌜ r ≡ numberIn (ofResent (resendFor (now (samples .entry)) (now (held .entry)) options)) ⌝ }
-    ensures block { λ _. ⌜ now (block .exit) ≡ heldAfter (resendFor (now (samples .entry)) (now (held .entry)) options) (now (block .entry)) ⌝ }
-    ensures fresh { λ _. ⌜ now (fresh .exit) ≡ freshAfter (resendFor (now (samples .entry)) (now (held .entry)) options) (now (fresh .entry)) ⌝ }
-    ensures detail { λ _. ⌜ now (detail .exit) ≡ detailAfter (ofResent (resendFor (now (samples .entry)) (now (held .entry)) options)) (now (detail .entry)) ⌝ }
+    ensures number { λ r. ⌜ r ≡ numberIn (ofResent (resendByWord (now (samples .entry)) (now (held .entry)) (wordOfNumber options))) ⌝ }
+    ensures block { λ _. ⌜ now (block .exit) ≡ heldAfter (resendByWord (now (samples .entry)) (now (held .entry)) (wordOfNumber options)) (now (block .entry)) ⌝ }
+    ensures fresh { λ _. ⌜ now (fresh .exit) ≡ freshAfter (resendByWord (now (samples .entry)) (now (held .entry)) (wordOfNumber options)) (now (fresh .entry)) ⌝ }
+    ensures detail { λ _. ⌜ now (detail .exit) ≡ detailAfter (ofResent (resendByWord (now (samples .entry)) (now (held .entry)) (wordOfNumber options))) (now (detail .entry)) ⌝ }
 {
     let answer = bc4::word::resend(samples, held, word_in(options));
     match answer {
@@ -145,10 +146,10 @@ pub extern "C" fn bc4_encode_tile(
     written: &mut usize,
     detail: &mut [usize; 4],
 ) -> u32
-    ensures number { λ r. ⌜ r ≡ numberIn (ofTiled (tileFor (now (samples .entry)) width height options (length (now (out .entry))))) ⌝ }
-    ensures bytes { λ _. ⌜ now (out .exit) ≡ outAfter (tileFor (now (samples .entry)) width height options (length (now (out .entry)))) (now (samples .entry)) width height (wordOfNumber options .options) (now (out .entry)) ⌝ }
-    ensures written { λ _. ⌜ now (written .exit) ≡ writtenAfter (tileFor (now (samples .entry)) width height options (length (now (out .entry)))) (now (written .entry)) ⌝ }
-    ensures detail { λ _. ⌜ now (detail .exit) ≡ detailAfter (ofTiled (tileFor (now (samples .entry)) width height options (length (now (out .entry))))) (now (detail .entry)) ⌝ }
+    ensures number { λ r. ⌜ r ≡ numberIn (ofTiled (tileByWord (now (samples .entry)) width height (wordOfNumber options) (length (now (out .entry))))) ⌝ }
+    ensures bytes { λ _. ⌜ now (out .exit) ≡ outAfter (tileByWord (now (samples .entry)) width height (wordOfNumber options) (length (now (out .entry)))) (now (samples .entry)) width height (wordOfNumber options .options) (now (out .entry)) ⌝ }
+    ensures written { λ _. ⌜ now (written .exit) ≡ writtenAfter (tileByWord (now (samples .entry)) width height (wordOfNumber options) (length (now (out .entry)))) (now (written .entry)) ⌝ }
+    ensures detail { λ _. ⌜ now (detail .exit) ≡ detailAfter (ofTiled (tileByWord (now (samples .entry)) width height (wordOfNumber options) (length (now (out .entry))))) (now (detail .entry)) ⌝ }
 {
     let answer = bc4::word::encode_tile(samples, width, height, word_in(options), out);
     match answer {

@@ -41,7 +41,8 @@ fn lines(input: &[u8], out: &mut [u8]) -> usize
         let l = line(&input[i * 68..i * 68 + 68]);
         let n = l.length;
         let text = l.bytes;
-        at += bytes::copy(&text[..n], &mut out[at..]);
+        let rest = &mut out[at..];
+        at += bytes::copy(&text[..n], rest);
     }
     at
 }

@@ -1,7 +1,7 @@
 -- The palette error of ends and samples in 0..1 is at most 256, so it is finite and no NaN; that of anything is never negative.
 use mathlib.Core.Path.{_≡_}
 use mathlib.Core.Bool.{Bool, false}
-use mathlib.Core.List.{List, []}
+use mathlib.Core.List.{List}
 use Prim.Native.Nat.{ℕ, zero, suc, _<_}
 use native.Mathlib.Omega.{arith}
 use lib.Dec.{lit≤}

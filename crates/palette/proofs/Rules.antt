@@ -3,7 +3,7 @@ use Prim.Native.Nat.{_<_}
 use lib.Ieee.{Float}
 use Rattle.palette.specs.declared.Kind.{Kind}
 use Rattle.palette.specs.declared.Kind.the-variants.{Six, Four}
-use Rattle.palette.specs.Rules.{closestOf}
+use Rattle.palette.specs.Closest.{closestOf}
 use Rattle.palette.proofs.ClosestLaws.{closest6-lt, closest4-lt}
 
 pub closest-lt : (kind : Kind) (c0 c1 x : Float) → closestOf kind c0 c1 x .index < 8

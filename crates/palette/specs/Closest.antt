@@ -9,11 +9,13 @@ use Rattle.floats.specs.Helpers.{absOf, laneMin, truncOf, byteUpTo7}
 use Rattle.block.specs.Samples.{pixelAt, perPixel}
 use Rattle.block.specs.Orders.{sumOfSquares}
 use Rattle.index_list.specs.Indexes.{filledTo}
+use Rattle.palette.specs.declared.Kind.{Kind}
+use Rattle.palette.specs.declared.Kind.the-variants.{Six, Four}
 use Rattle.palette.specs.declared.inter6.Inter6Palette.{Inter6Palette}
 use Rattle.palette.specs.declared.Closest.{Closest}
 use Rattle.palette.specs.declared.inter4.Nearest.{Nearest}
 use Rattle.palette.specs.declared.Indexed.{Indexed}
-use Rattle.palette.specs.Palettes.{entry, f7, seventh, indexMap, blended}
+use Rattle.palette.specs.Palettes.{entry, f7, seventh, indexMap, blended, inter6Palette, colors}
 
 -- ---- six values
 -- how many sevenths towards c0, before it is cut to a whole number
@@ -52,6 +54,11 @@ nearestTo c x (suc k) = nearerOf (nearestTo c x k) k (entry c k) x
 
 unfoldable pub closest4 : List Float → Float → Closest
 closest4 c x = record { index = nearestTo c x 6 .index; value = entry c (nearestTo c x 6 .index); error = nearestTo c x 6 .error }
+
+-- by the kind of palette, of its two ends
+abbrev pub closestOf : Kind → Float → Float → Float → Closest
+closestOf Six c0 c1 = closest6 (inter6Palette c0 c1)
+closestOf Four c0 c1 = closest4 (colors c0 c1)
 
 -- ---- a whole block, by any rule that answers a sample
 abbrev pub blockClosest : (Float → Closest) → List Float → Indexed

@@ -3,4 +3,3 @@ pub mod PaletteError
 pub mod Closest
 pub mod Rows
 pub mod ByKind
-pub mod Rules

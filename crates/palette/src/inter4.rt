@@ -1,13 +1,12 @@
 // Inter4Palette.
 ghost use mathlib.Core.Path.{_≡_};
 ghost use mathlib.Core.Bool.{cond};
-ghost use Prim.Native.Nat.{_≤_, _<_};
+ghost use Prim.Native.Nat.{_<_};
 ghost use Rattle.palette.specs.Palettes.{entry, colors as colorsOf, values4};
 ghost use Rattle.palette.specs.Closest.{defaultOf, nearerOf, nearestTo, closest4, blockClosest};
 use crate::Closest;
 use crate::Indexed;
 use end_points::EndPoints;
-use index_list::IndexList;
 
 pub struct Inter4Palette {
     pub colors: [f32; 8],

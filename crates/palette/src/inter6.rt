@@ -8,7 +8,6 @@ ghost use Rattle.palette.specs.Rows.{index6, off6, rowCode, rowSum, ofRo
 use crate::Closest;
 use crate::Indexed;
 use end_points::EndPoints;
-use index_list::IndexList;
 
 // FACTORS
 const F1: f32 = 1.0 / 7.0;

@@ -14,7 +14,6 @@ pub mod inter4;
 pub mod inter6;
 
 use index_list::IndexList;
-use inter4::Inter4Palette;
 use inter6::Inter6Palette;
 
 // What the Rust's generic parameter `P: Palette` chooses.

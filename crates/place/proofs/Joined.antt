@@ -54,8 +54,8 @@ module _ {piece : ℕ → List ℕ} {size : ℕ} {old : List ℕ} where
       let done = joined piece k in
       let long : length done ≡ k * size = joined-length piece size each k in
       let made : putMid at m out new ≡ joined piece (k + 1) ++ drop ((k + 1) * size) old =
-          rw (add-one k, suc-mul k size, ← n, g .same, a, e, take-at done (drop (k * size) old) (k * size) long, drop-at done (drop (k * size) old) (k * size) long, drop-drop size (k * size) old)
-          (sym (append-assoc done new (drop (k * size + size) old))) in
+      rw (add-one k, suc-mul k size, ← n, g .same, a, e, take-at done (drop (k * size) old) (k * size) long, drop-at done (drop (k * size) old) (k * size) long, drop-drop size (k * size) old)
+      (sym (append-assoc done new (drop (k * size + size) old))) in
       record { same = made; long = rw made (simp (length-append, length-drop, joined-length piece size each) (omega (arith, a, suc-mul k size, room))) }
 
 module _ (block : ℕ → ℕ → List ℕ) (size width : ℕ) (each : (column row : ℕ) → length (block column row) ≡ size) where

@@ -1,5 +1,5 @@
 -- The sixteen samples of a block: they stand within the tile, and are the tile's where it has one block.
-use mathlib.Core.Path.{_≡_, refl, sym, ap}
+use mathlib.Core.Path.{_≡_, sym, ap}
 use mathlib.Core.List.{List}
 use mathlib.Core.Bool.{false}
 use Prim.Native.Nat.{ℕ, _+_, _*_, _/_, _<_, _≤_}

@@ -12,7 +12,7 @@ use Rattle.palette.specs.declared.Kind.{Kind}
 use Rattle.palette.specs.PaletteError.{paletteError}
 use Rattle.refine.specs.declared.rounds.Held.{Held}
 use Rattle.options.specs.declared.Quantization.the-variants.{MediumQuality, HighQuality}
-use Rattle.refine.specs.Rounds.{held, better}
+use Rattle.refine.specs.Rounds.{held}
 use Rattle.refine.specs.Refining.{quantizedPair, heldPair, betterPair, otherPair, medium, closerPair, highTo, pairOf, quantizing}
 use Rattle.refine.proofs.Limits.{Better, better-trans, better-better, better-honest, held-honest, Honest}
 

@@ -1,6 +1,5 @@
 // bc4.rs: refine_endpoints, with its three roundings.
 ghost use mathlib.Core.Path.{_≡_};
-ghost use Prim.Native.Nat.{ℕ};
 ghost use Rattle.refine.specs.Refining.{heldPair, betterPair, otherPair, medium as mediumOf, closerPair, highTo, quantizing as quantizingOf, firstStep, leastStep, refinedEnds};
 
 pub mod rounds;

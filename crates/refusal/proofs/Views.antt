@@ -11,10 +11,10 @@ use Rattle.refusal.specs.Refusals.{firstOf, viewChecks}
 use Rattle.refusal.proofs.Firsts.{first-clear, same-of}
 
 -- so that its place is a number that a word holds
-abbrev pub Within : List ℕ → ℕ → ℕ → ℕ → Type 0
-Within tile width column row = (blockAt bc4Size width column row + bc4Size ≤ length tile) × (length tile ≤ 524288)
+abbrev pub InTile : List ℕ → ℕ → ℕ → ℕ → Type 0
+InTile tile width column row = (blockAt bc4Size width column row + bc4Size ≤ length tile) × (length tile ≤ 524288)
 
-pub view-room : (tile : List ℕ) (width height column row : ℕ) → firstOf (viewChecks (length tile) width height column row) ≡ Passed → Within tile width column row
+pub view-room : (tile : List ℕ) (width height column row : ℕ) → firstOf (viewChecks (length tile) width height column row) ≡ Passed → InTile tile width column row
 view-room tile width height column row passed =
     let clear = first-clear (viewChecks (length tile) width height column row) passed in
     let there = block-there width height column row (clear .1 .1 .0) in

@@ -82,11 +82,11 @@ module _ (b : List Float) (u : InUnit b) where
       ⊎-elim
       (λ e. clash (below-inf 256 _ (search-finite Six 0 255 covered-some)) (subst (NotBelow (pairError Six b 0 255)) e (found-below Six 0 255 covered-some)))
       (λ f. f)
-      (mins-keep b (λ h. (h ≡ start) ⊎ Found h) (leastMax (smallest b)) (minLimit (largest b)) tried start (inl refl))
+      (mins-keep b (λ h. (h ≡ start) ⊎ Found h) (leastMax (smallest b)) (minLimit (largest b)) modeTried start (inl refl))
     where
-      tried : (h : Coded) (min max : ℕ) → min < minLimit (largest b) → firstMax (leastMax (smallest b)) min ≤ max → max ≤ 255
+      modeTried : (h : Coded) (min max : ℕ) → min < minLimit (largest b) → firstMax (leastMax (smallest b)) min ≤ max → max ≤ 255
           → (h ≡ start) ⊎ Found h → (pairTried b h min max ≡ start) ⊎ Found (pairTried b h min max)
-      tried h min max l f t p =
+      modeTried h min max l f t p =
           let g = first-from (leastMax (smallest b)) min max f in
           let c : Covered b min max = record { min-below = l; max-from = g .0; apart = g .1; max-to = t } in
           let one : (kind : Kind) → Found (candidate b kind min max) =

@@ -17,7 +17,7 @@ use Rattle.palette.specs.declared.Kind.{Kind}
 use Rattle.palette.specs.declared.Kind.the-variants.{Six, Four}
 use Rattle.coding.specs.declared.Coded.{Coded}
 use Rattle.coding.specs.Coding.{smaller}
-use Rattle.search.specs.Search.{tried, pairTried, maxesTried, firstMax, minsTried}
+use Rattle.search.specs.Search.{modeTried, pairTried, maxesTried, firstMax, minsTried}
 use Rattle.search.specs.Covered.{pairError, pairBytes}
 
 -- ---- where max starts
@@ -58,7 +58,7 @@ module _ (b : List Float) where
   candidate kind min max = record { bytes = pairBytes kind b min max; error = pairError kind b min max }
 
   pub pair-is : (best : Coded) (min max : ℕ) → pairTried b best min max ≡ smaller (smaller best (candidate Six min max)) (candidate Four min max)
-  unfolding pairTried tried ofBytes exchanged
+  unfolding pairTried modeTried ofBytes exchanged
   pair-is best min max = refl
 
   -- ---- over all pairs: what each pair keeps is kept,

@@ -16,14 +16,14 @@ use Rattle.coding.specs.declared.Coded.{Coded}
 use Rattle.coding.specs.Coding.{ended}
 
 -- what is held, or the bytes of these endpoints if their palette error is strictly smaller
-unfoldable pub tried : Kind → List Float → Coded → EndPoints → Coded
-tried kind b best e =
+unfoldable pub modeTried : Kind → List Float → Coded → EndPoints → Coded
+modeTried kind b best e =
     let error = paletteError kind b (e .«c0_f») (e .«c1_f») in
     cond (lt error (best .error)) (record { bytes = ended kind b false e .bytes; error = error }) best
 
 -- one pair: six values, then four
 unfoldable pub pairTried : List Float → Coded → ℕ → ℕ → Coded
-pairTried b best min max = let e = ofBytes max min false in tried Four b (tried Six b best e) (exchanged e)
+pairTried b best min max = let e = ofBytes max min false in modeTried Four b (modeTried Six b best e) (exchanged e)
 
 -- min with n values of max, from `first` on
 unfoldable pub maxesTried : List Float → Coded → ℕ → ℕ → ℕ → Coded

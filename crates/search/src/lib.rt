@@ -8,7 +8,7 @@ ghost use Rattle.palette.specs.declared.Kind.{Kind as KindOf};
 ghost use Rattle.palette.specs.declared.Kind.the-variants.{Six};
 ghost use Rattle.search.specs.Covered.{pairError};
 ghost use Rattle.search.specs.Floor.{maxFloors, Floors};
-ghost use Rattle.search.specs.Search.{tried as triedOf, pairTried, maxesTried, minsTried, firstMax, minLimit, leastMax, searched};
+ghost use Rattle.search.specs.Search.{modeTried, pairTried, maxesTried, minsTried, firstMax, searched};
 
 mod floor;
 
@@ -17,8 +17,8 @@ use end_points::EndPoints;
 use floats::Pair;
 use palette::Kind;
 
-fn tried(kind: Kind, b: &[f32; 16], best: Coded, e: EndPoints) -> Coded
-    ensures { λ r. ⌜ r ≡ triedOf kind (now (b .entry)) best e ⌝ }
+fn mode_tried(kind: Kind, b: &[f32; 16], best: Coded, e: EndPoints) -> Coded
+    ensures { λ r. ⌜ r ≡ modeTried kind (now (b .entry)) best e ⌝ }
 {
     let error = palette::palette_error(kind, b, e.c0_f, e.c1_f);
     if error < best.error {
@@ -40,8 +40,8 @@ fn pair_tried(b: &[f32; 16], floor: f32, best: Coded, min: u8, max: u8) -> Coded
         return best;
     }
     let e = EndPoints::new_inter6_unorm(max, min);
-    let six = tried(Kind::Six, b, best, e);
-    tried(Kind::Four, b, six, e.inter6_to_inter4())
+    let six = mode_tried(Kind::Six, b, best, e);
+    mode_tried(Kind::Four, b, six, e.inter6_to_inter4())
 }
 
 fn maxes_tried(b: &[f32; 16], floors: &[f32; 256], start: Coded, min: u8, first: u32) -> Coded

@@ -2,7 +2,7 @@ use mathlib.Core.Path.{_≡_, sym, _∙_}
 use Prim.Native.Nat.{_+_, _-_}
 use native.Mathlib.Omega.{arith}
 use Rattle.place.specs.Place.{bc4Size, blockAt}
-use Rattle.refusal.proofs.Views.{Within, view-room}
+use Rattle.refusal.proofs.Views.{InTile, view-room}
 use borrow.Author.Needs.{needs}
 use Rattle.bc4.proofs.block_view.Statement.{statement}
 use Rattle.bc4.proofs.block_view.Tie as tie
@@ -25,7 +25,7 @@ part-result-end c = search needs
 enum-told-2 : tie.Need-enum-told-2
 enum-told-2 c = search needs
 
-within : (t : tie.After-enum-told2) → let a = t .before .before .before .before .args in Within (a .tile .now) (a .width) (a .column) (a .row)
+within : (t : tie.After-enum-told2) → let a = t .before .before .before .before .args in InTile (a .tile .now) (a .width) (a .column) (a .row)
 within t =
     let a = t .before .before .before .before .args in
     view-room (a .tile .now) (a .width) (a .height) (a .column) (a .row) (sym (t .before .before .view-refusal .ensures) ∙ t .enum-told2 .given .1)

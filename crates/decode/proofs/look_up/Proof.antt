@@ -1,9 +1,8 @@
-use mathlib.Core.Path.{_≡_, refl}
-use Prim.Native.Nat.{_≤_, _-_}
+use mathlib.Core.Path.{refl}
+use Prim.Native.Nat.{_-_}
 use native.Mathlib.Omega.{arith}
 use lib.Ieee.{nan}
 use borrow.Author.Needs.{needs}
-use Rattle.palette.specs.Palettes.{entry}
 use Rattle.block.proofs.Fill.{Filled, fill-start, fill-step, fill-end}
 use Rattle.decode.specs.Meaning.{picked}
 use Rattle.decode.proofs.look_up.Statement.{statement}

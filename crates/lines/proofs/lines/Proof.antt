@@ -41,20 +41,20 @@ part-line-end c = search needs
 line-requires : tie.Need-line-requires Inv-loop μ-loop
 line-requires c κs = simp (length-take, length-drop) (omega arith)
 
+sub-rest : tie.Need-sub-rest Inv-loop μ-loop
+sub-rest c = search needs
+
+part-rest-start : tie.Need-part-rest-start Inv-loop μ-loop
+part-rest-start c = search needs
+
+part-rest-end : tie.Need-part-rest-end Inv-loop μ-loop
+part-rest-end c = search needs
+
 array-share-prefix-text : tie.Need-array-share-prefix-text Inv-loop μ-loop
 array-share-prefix-text c = search needs
 
 slice-aggregate-copy : tie.Need-slice-aggregate-copy Inv-loop μ-loop
-slice-aggregate-copy c = sym (line-bytes (c .before .before .line .ensures))
-
-sub-copy : tie.Need-sub-copy Inv-loop μ-loop
-sub-copy c = search needs
-
-part-copy-start : tie.Need-part-copy-start Inv-loop μ-loop
-part-copy-start c = search needs
-
-part-copy-end : tie.Need-part-copy-end Inv-loop μ-loop
-part-copy-end c = search needs
+slice-aggregate-copy c = sym (line-bytes (c .before .before .before .line .ensures))
 
 copy-requires : tie.Need-copy-requires Inv-loop μ-loop
 copy-requires c κs = simp (length-take, length-drop) (omega arith)
@@ -106,11 +106,11 @@ lines-spec =
     part-line-start
     part-line-end
     line-requires
+    sub-rest
+    part-rest-start
+    part-rest-end
     array-share-prefix-text
     slice-aggregate-copy
-    sub-copy
-    part-copy-start
-    part-copy-end
     copy-requires
     add-at
     add-i

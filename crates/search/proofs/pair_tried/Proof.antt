@@ -14,18 +14,18 @@ returns c =
 new-inter6-unorm-requires : tie.Need-new-inter6-unorm-requires
 new-inter6-unorm-requires c κs = search needs
 
-tried-requires : tie.Need-tried-requires
-tried-requires c κs = search needs
+mode-tried-requires : tie.Need-mode-tried-requires
+mode-tried-requires c κs = search needs
 
 inter6-to-inter4-requires : tie.Need-inter6-to-inter4-requires
 inter6-to-inter4-requires c κs = search needs
 
-tried-requires-2 : tie.Need-tried-requires-2
-tried-requires-2 c κs = search needs
+mode-tried-requires-2 : tie.Need-mode-tried-requires-2
+mode-tried-requires-2 c κs = search needs
 
 returns-2 : tie.Need-returns-2
 unfolding pairTried
-returns-2 c = rw (c .tried2 .ensures, c .before .inter6-to-inter4 .ensures, c .before .before .tried .ensures, c .before .before .before .new-inter6-unorm .ensures)
+returns-2 c = rw (c .mode-tried2 .ensures, c .before .inter6-to-inter4 .ensures, c .before .before .mode-tried .ensures, c .before .before .before .new-inter6-unorm .ensures)
 
 pub pair-tried-spec : {M : Type 1} → statement M
 pair-tried-spec =
@@ -33,7 +33,7 @@ pair-tried-spec =
     (tie.spec
     returns
     new-inter6-unorm-requires
-    tried-requires
+    mode-tried-requires
     inter6-to-inter4-requires
-    tried-requires-2
+    mode-tried-requires-2
     returns-2)

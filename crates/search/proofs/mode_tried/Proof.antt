@@ -1,7 +1,7 @@
-use Rattle.search.specs.Search.{tried}
+use Rattle.search.specs.Search.{modeTried}
 use borrow.Author.Needs.{needs}
-use Rattle.search.proofs.tried.Statement.{statement}
-use Rattle.search.proofs.tried.Tie as tie
+use Rattle.search.proofs.mode_tried.Statement.{statement}
+use Rattle.search.proofs.mode_tried.Tie as tie
 
 palette-error-requires : tie.Need-palette-error-requires
 palette-error-requires c κs = search needs
@@ -10,14 +10,14 @@ ended-requires : tie.Need-ended-requires
 ended-requires c κs = search needs
 
 returns : tie.Need-returns
-unfolding tried
+unfolding modeTried
 returns c =
     let k = c .before .before .before in
     rw (← k .palette-error .ensures, c .before .if1 .taken, c .ended .ensures)
 
 returns-2 : tie.Need-returns-2
-unfolding tried
+unfolding modeTried
 returns-2 c = rw (← c .before .before .palette-error .ensures, c .if1 .left)
 
-pub tried-spec : {M : Type 1} → statement M
-tried-spec = tie.close (tie.spec palette-error-requires ended-requires returns returns-2)
+pub mode-tried-spec : {M : Type 1} → statement M
+mode-tried-spec = tie.close (tie.spec palette-error-requires ended-requires returns returns-2)

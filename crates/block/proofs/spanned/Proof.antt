@@ -1,6 +1,6 @@
 use borrow.Author.Needs.{needs}
-use Rattle.block.proofs.joined.Statement.{statement}
-use Rattle.block.proofs.joined.Tie as tie
+use Rattle.block.proofs.spanned.Statement.{statement}
+use Rattle.block.proofs.spanned.Tie as tie
 
 lane-max-requires : tie.Need-lane-max-requires
 lane-max-requires c κs = search needs
@@ -11,5 +11,5 @@ lane-min-requires c κs = search needs
 returns : tie.Need-returns
 returns c = rw (c .lane-min .ensures, c .before .lane-max .ensures)
 
-pub joined-spec : {M : Type 1} → statement M
-joined-spec = tie.close (tie.spec lane-max-requires lane-min-requires returns)
+pub spanned-spec : {M : Type 1} → statement M
+spanned-spec = tie.close (tie.spec lane-max-requires lane-min-requires returns)
