@@ -50,6 +50,12 @@ pub fn fill_samples(out: &mut [f32], first: usize, second: usize) {
     }
 }
 
+pub fn fill_bytes(out: &mut [u8]) {
+    for i in 0..out.len() {
+        out[i] = byte(i);
+    }
+}
+
 // The first `count`, or all where there are no more.
 pub fn first_samples(s: &[f32], count: usize) -> &[f32] {
     if count < s.len() {
@@ -72,13 +78,10 @@ pub fn samples(first: usize, second: usize) -> [f32; 17] {
     s
 }
 
-// As many as any case asks for.
-pub fn bytes() -> [u8; 2056] {
-    let mut bytes = [0u8; 2056];
-    for i in 0..2056usize {
-        bytes[i] = byte(i);
-    }
-    bytes
+pub fn bytes() -> [u8; 17] {
+    let mut b = [0u8; 17];
+    fill_bytes(&mut b);
+    b
 }
 
 // Sixteen samples by what they are.

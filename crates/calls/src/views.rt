@@ -23,7 +23,8 @@ pub fn place(column: usize, row: usize) {
 }
 
 fn viewed(width: usize, height: usize, length: usize, column: usize, row: usize) {
-    let t = given::bytes();
+    let mut t = [0u8; 2056];
+    given::fill_bytes(&mut t);
     place(column, row);
     tiles::size(width, height);
     show::text(b", ");
