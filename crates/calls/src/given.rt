@@ -50,9 +50,9 @@ pub fn fill_samples(out: &mut [f32], first: usize, second: usize) {
     }
 }
 
-pub fn fill_bytes(out: &mut [u8]) {
-    for i in 0..out.len() {
-        out[i] = byte(i);
+pub fn fill_bytes(bytes: &mut [u8]) {
+    for k in 0..bytes.len() {
+        bytes[k] = byte(k);
     }
 }
 

@@ -7,10 +7,10 @@ use Rattle.calls.proofs.given.fill_bytes.Statement.{statement}
 use Rattle.calls.proofs.given.fill_bytes.Tie as tie
 
 abbrev Inv-loop : tie.InvT-loop
-Inv-loop out₀ i₀ i-end out i = (length out ≡ length out₀) × (i ≤ length out₀)
+Inv-loop bytes₀ k₀ k-end bytes k = (length bytes ≡ length bytes₀) × (k ≤ length bytes₀)
 
 abbrev μ-loop : tie.MeasureT-loop
-μ-loop out₀ i₀ i-end out i = length out₀ - i
+μ-loop bytes₀ k₀ k-end bytes k = length bytes₀ - k
 
 loop-holds : tie.Need-loop-holds Inv-loop μ-loop
 loop-holds c = search needs
@@ -18,11 +18,11 @@ loop-holds c = search needs
 byte-requires : tie.Need-byte-requires Inv-loop μ-loop
 byte-requires c κs = search needs
 
-slice-write-out : tie.Need-slice-write-out Inv-loop μ-loop
-slice-write-out c = search needs
+slice-write-bytes : tie.Need-slice-write-bytes Inv-loop μ-loop
+slice-write-bytes c = search needs
 
-add-i : tie.Need-add-i Inv-loop μ-loop
-add-i c = search needs
+add-k : tie.Need-add-k Inv-loop μ-loop
+add-k c = search needs
 
 loop-less : tie.Need-loop-less Inv-loop μ-loop
 loop-less c = search needs
@@ -34,7 +34,7 @@ same-length : tie.Need-same-length Inv-loop μ-loop
 same-length c = search needs
 
 returns : tie.Need-returns Inv-loop μ-loop
-returns c = search needs
+returns c = tt
 
 pub fill-bytes-spec : {M : Type 1} → statement M
 fill-bytes-spec =
@@ -44,8 +44,8 @@ fill-bytes-spec =
     μ-loop
     loop-holds
     byte-requires
-    slice-write-out
-    add-i
+    slice-write-bytes
+    add-k
     loop-less
     loop-again
     same-length
