@@ -22,14 +22,12 @@ smaller best next = cond (lt (next .error) (best .error)) next best
 abbrev pub ruleOf : Kind → EndPoints → Float → Closest
 ruleOf kind e = closestOf kind (e .«c0_f») (e .«c1_f»)
 
--- the indexes by its rule, dithered or not
-abbrev pub indexed : Kind → List Float → Bool → EndPoints → Indexed
-indexed kind b dither e = cond dither (blockDither (ruleOf kind e) b) (blockClosest (ruleOf kind e) b)
+abbrev pub laidOut : EndPoints → Indexed → Coded
+laidOut e x = record { bytes = packed (e .c0) (e .c1) (x .indexes .«data»); error = x .error }
 
+-- with the indexes by its rule, dithered or not
 unfoldable pub ended : Kind → List Float → Bool → EndPoints → Coded
-ended kind b dither e =
-    let x = indexed kind b dither e in
-    record { bytes = packed (e .c0) (e .c1) (x .indexes .«data»); error = x .error }
+ended kind b dither e = laidOut e (cond dither (blockDither (ruleOf kind e) b) (blockClosest (ruleOf kind e) b))
 
 -- ---- from the floats that the endpoints are made of
 abbrev pub endsIn : Kind → Bool → Pair → EndPoints

@@ -1,7 +1,7 @@
 // What both compressions end with: palette, indexes, bytes.
 ghost use mathlib.Core.Path.{_≡_};
 ghost use mathlib.Core.Bool.{cond};
-ghost use Rattle.coding.specs.Coding.{smaller as smallerOf, indexed as indexedOf, ended as endedOf};
+ghost use Rattle.coding.specs.Coding.{smaller as smallerOf, laidOut, ended as endedOf};
 use end_points::EndPoints;
 use palette::Indexed;
 use palette::Kind;
@@ -26,25 +26,25 @@ pub fn smaller(best: Coded, next: Coded) -> Coded
     pick(next.error < best.error, next, best)
 }
 
-fn indexed(kind: Kind, b: &[f32; 16], dither: bool, e: EndPoints) -> Indexed
-    ensures { λ r. ⌜ r ≡ indexedOf kind (now (b .entry)) dither e ⌝ }
+fn laid_out(e: EndPoints, x: Indexed) -> Coded
+    ensures { λ r. ⌜ r ≡ laidOut e x ⌝ }
 {
-    if dither {
-        return bcn_util::dither::dither(kind, b, e.c0_f, e.c1_f);
-    }
-    match kind {
-        Kind::Six => Inter6Palette::from_endpoints(e).block_closest(b),
-        Kind::Four => Inter4Palette::from_endpoints(e).block_closest(b),
-    }
-}
-
-pub fn ended(kind: Kind, b: &[f32; 16], dither: bool, e: EndPoints) -> Coded
-    ensures { λ r. ⌜ r ≡ endedOf kind (now (b .entry)) dither e ⌝ }
-{
-    let x = indexed(kind, b, dither, e);
     let list = x.indexes;
     Coded {
         bytes: e.with_indexes(list),
         error: x.error,
+    }
+}
+
+// Laid out in each arm: behind them the compiler would carry the indexes of both kinds.
+pub fn ended(kind: Kind, b: &[f32; 16], dither: bool, e: EndPoints) -> Coded
+    ensures { λ r. ⌜ r ≡ endedOf kind (now (b .entry)) dither e ⌝ }
+{
+    if dither {
+        return laid_out(e, bcn_util::dither::dither(kind, b, e.c0_f, e.c1_f));
+    }
+    match kind {
+        Kind::Six => laid_out(e, Inter6Palette::new(e.c0_f, e.c1_f).block_closest(b)),
+        Kind::Four => laid_out(e, Inter4Palette::new(e.c0_f, e.c1_f).block_closest(b)),
     }
 }
