@@ -1,9 +1,9 @@
 // bc4.rs: Block. The Rust's four Vec4 are sixteen floats here, pixel i in lane i % 4: a loop over them vectorises.
 ghost use mathlib.Core.Path.{_≡_};
 ghost use Prim.Native.Nat.{_<_};
-ghost use Rattle.floats.specs.Arithmetic.{f0, f1};
+ghost use Rattle.floats.specs.Arithmetic.{_⊕_, squared, f0, f1};
 ghost use Rattle.block.specs.Samples.{pixelAt};
-ghost use Rattle.block.specs.Orders.{downLane, downFrom, sumInOrder, sumInPairs, sumOfSquares};
+ghost use Rattle.block.specs.Orders.{downLane, downFrom, sumInOrder, sumInPairs, rowDot, sumOfSquares};
 ghost use Rattle.block.specs.Block.{entered, minMax, minMaxWithThreshold, mean as meanOf, spanned as spannedOf, alone, counted};
 use floats::Pair;
 
@@ -117,14 +117,23 @@ pub fn sum_in_pairs(e: &[f32; 16]) -> f32
     (x + y) + (z + w)
 }
 
+fn four_squares(x: f32, y: f32, z: f32, w: f32) -> f32
+    ensures { λ r. ⌜ r ≡ squared x ⊕ squared y ⊕ squared z ⊕ squared w ⌝ }
+{
+    x * x + y * y + z * z + w * w
+}
+
+fn row_dot(e: &[f32; 16], i: usize) -> f32
+    requires { ⌜ i < 4 ⌝ }
+    ensures { λ r. ⌜ r ≡ rowDot (now (e .entry)) i ⌝ }
+{
+    four_squares(e[4 * i], e[4 * i + 1], e[4 * i + 2], e[4 * i + 3])
+}
+
 pub fn sum_of_squares(e: &[f32; 16]) -> f32
     ensures { λ r. ⌜ r ≡ sumOfSquares (now (e .entry)) ⌝ }
 {
-    let row0 = e[0] * e[0] + e[1] * e[1] + e[2] * e[2] + e[3] * e[3];
-    let row1 = e[4] * e[4] + e[5] * e[5] + e[6] * e[6] + e[7] * e[7];
-    let row2 = e[8] * e[8] + e[9] * e[9] + e[10] * e[10] + e[11] * e[11];
-    let row3 = e[12] * e[12] + e[13] * e[13] + e[14] * e[14] + e[15] * e[15];
-    0.0 + row0 + row1 + row2 + row3
+    0.0 + row_dot(e, 0) + row_dot(e, 1) + row_dot(e, 2) + row_dot(e, 3)
 }
 
 pub fn mean(b: &[f32; 16]) -> f32

@@ -64,11 +64,13 @@ across s = (pixelAt s 0 ⊕ pixelAt s 1) ⊕ (pixelAt s 2 ⊕ pixelAt s 3)
 unfoldable pub matrix : Weighed → WeightMatrix
 matrix g = orMean (fromD (across (g .ww)) (across (g .wv)) (across (g .vv)))
 
+abbrev pub lineLane : List Float → Weighed → Float → Float → ℕ → Float
+lineLane b g e d j =
+    let at : List Float → ℕ → Float = λ w i. pixelAt b i ⊗ (e ⊕ d ⊗ pixelAt w j) in
+    at (g .w0) j ⊕ at (g .w1) (j + 4) ⊕ at (g .w2) (j + 8) ⊕ at (g .w3) (j + 12)
+
 abbrev pub lineLanes : List Float → Weighed → Float → Float → List Float
-lineLanes b g e d =
-    let at : List Float → ℕ → ℕ → Float = λ w j i. pixelAt b i ⊗ (e ⊕ d ⊗ pixelAt w j) in
-    let lane : ℕ → Float = λ j. at (g .w0) j j ⊕ at (g .w1) j (j + 4) ⊕ at (g .w2) j (j + 8) ⊕ at (g .w3) j (j + 12) in
-    lane 0 ∷ lane 1 ∷ lane 2 ∷ lane 3 ∷ []
+lineLanes b g e d = lineLane b g e d 0 ∷ lineLane b g e d 1 ∷ lineLane b g e d 2 ∷ lineLane b g e d 3 ∷ []
 
 unfoldable pub fitLanes : List Float → Pair → Lanes
 fitLanes b p =

@@ -2,8 +2,9 @@
 // compiler makes one turn of four lanes.
 ghost use mathlib.Core.Path.{_≡_};
 ghost use Prim.Native.Nat.{_<_};
+ghost use Rattle.floats.specs.Arithmetic.{_⊕_, _⊗_};
 ghost use Rattle.fit.specs.Fit.{fitted as fittedOf};
-ghost use Rattle.fit.specs.Lanes.{laneOf, laneAt, weighed, across as acrossOf, lineLanes, matrix as matrixOf, fitLanes, ends as endsOf};
+ghost use Rattle.fit.specs.Lanes.{laneOf, laneAt, weighed, across as acrossOf, lineLane as lineLaneOf, lineLanes, matrix as matrixOf, fitLanes, ends as endsOf};
 use bcn_util::least_squares::WeightMatrix;
 use floats::Pair;
 use palette::inter6;
@@ -114,30 +115,53 @@ fn across(s: [f32; 4]) -> f32
     (s[0] + s[1]) + (s[2] + s[3])
 }
 
-fn line_lanes(b: &[f32; 16], g: Weighed, e: f32, d: f32) -> [f32; 4]
-    ensures { λ r. ⌜ r ≡ lineLanes (now (b .entry)) g e d ⌝ }
+fn line_four(
+    e: f32,
+    d: f32,
+    x0: f32,
+    x1: f32,
+    x2: f32,
+    x3: f32,
+    w0: f32,
+    w1: f32,
+    w2: f32,
+    w3: f32,
+) -> f32
+    ensures { λ r. ⌜ r ≡ x0 ⊗ (e ⊕ d ⊗ w0) ⊕ x1 ⊗ (e ⊕ d ⊗ w1) ⊕ x2 ⊗ (e ⊕ d ⊗ w2) ⊕ x3 ⊗ (e ⊕ d ⊗ w3) ⌝ }
+{
+    x0 * (e + d * w0) + x1 * (e + d * w1) + x2 * (e + d * w2) + x3 * (e + d * w3)
+}
+
+fn line_lane(b: &[f32; 16], g: Weighed, e: f32, d: f32, j: usize) -> f32
+    requires { ⌜ j < 4 ⌝ }
+    ensures { λ r. ⌜ r ≡ lineLaneOf (now (b .entry)) g e d j ⌝ }
 {
     let w0 = g.w0;
     let w1 = g.w1;
     let w2 = g.w2;
     let w3 = g.w3;
+    line_four(
+        e,
+        d,
+        b[j],
+        b[j + 4],
+        b[j + 8],
+        b[j + 12],
+        w0[j],
+        w1[j],
+        w2[j],
+        w3[j],
+    )
+}
+
+fn line_lanes(b: &[f32; 16], g: Weighed, e: f32, d: f32) -> [f32; 4]
+    ensures { λ r. ⌜ r ≡ lineLanes (now (b .entry)) g e d ⌝ }
+{
     [
-        b[0] * (e + d * w0[0])
-            + b[4] * (e + d * w1[0])
-            + b[8] * (e + d * w2[0])
-            + b[12] * (e + d * w3[0]),
-        b[1] * (e + d * w0[1])
-            + b[5] * (e + d * w1[1])
-            + b[9] * (e + d * w2[1])
-            + b[13] * (e + d * w3[1]),
-        b[2] * (e + d * w0[2])
-            + b[6] * (e + d * w1[2])
-            + b[10] * (e + d * w2[2])
-            + b[14] * (e + d * w3[2]),
-        b[3] * (e + d * w0[3])
-            + b[7] * (e + d * w1[3])
-            + b[11] * (e + d * w2[3])
-            + b[15] * (e + d * w3[3]),
+        line_lane(b, g, e, d, 0),
+        line_lane(b, g, e, d, 1),
+        line_lane(b, g, e, d, 2),
+        line_lane(b, g, e, d, 3),
     ]
 }
 
