@@ -47,9 +47,6 @@ module _ (width height : ℕ) (good : badSize width height ≡ false) where
   pub size-small : width * height ≤ longestSide * longestSide
   size-small = mul-le-mul (size-good .0 .short) (size-good .1 .short)
 
-  pub rows-samples : 4 * along height * width ≡ width * height
-  rows-samples = rw (size-good .1 .fours) (mul-comm height width)
-
   -- the bytes of all blocks, row by row
   pub rows-length : (size : ℕ) → along height * (along width * size) ≡ encodedLength size width height
   rows-length size =
