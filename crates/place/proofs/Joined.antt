@@ -1,13 +1,13 @@
 -- Pieces of one length, joined: how long they are, what stands in a piece, and one piece more. For the blocks of a row, and the rows of a tile.
 use mathlib.Core.Path.{_≡_, refl, sym, ap, _∙_}
-use mathlib.Core.List.{List, _++_, append-assoc}
+use mathlib.Core.List.{List, _++_, append-assoc, append-nil}
 use mathlib.Core.Logic.{⊎-elim}
 use Prim.Native.Nat.{ℕ, zero, suc, _+_, _*_, _-_, _<_, _≤_}
 use native.Mathlib.Nat.{add-zero, zero-mul, suc-mul, mul-comm, mul-assoc, add-mul, eq-or-lt-of-le}
 use native.Mathlib.Numerals.{add-one}
 use native.Mathlib.Omega.{arith}
-use lib.ListN.{length, take, drop, length-append, length-drop}
-use lib.Seq.{take-all, take-at, drop-at, drop-drop, take-append-le, drop-append-le, drop-append-add}
+use lib.ListN.{length, take, drop, length-append, length-drop, drop-of-length-le}
+use lib.Seq.{take-all, take-length, take-at, drop-at, drop-drop, take-append-le, drop-append-le, drop-append-add}
 use borrow.Rule.Slice.PartMut.{putMid}
 use Rattle.place.specs.Place.{along, blockAt, joined, rowBytes, allBytes}
 use Rattle.place.proofs.Places.{fits}
@@ -35,6 +35,10 @@ module _ (piece : ℕ → List ℕ) (size : ℕ) (each : (k : ℕ) → length (p
       (λ (e : k ≡ n). rw (e, ← joined-length n, drop-append-add (joined piece n) (piece n) at) refl)
       (λ (l : k < n). in-first (joined piece n) (piece n) m (k * size + at) (omega (arith, joined-length n, fits k n size l)) ∙ joined-at n k m at l r)
       (eq-or-lt-of-le q)
+
+-- a copy as long as what it is copied to
+pub all-copied : (new old : List ℕ) → length old ≤ length new → take (length new) new ++ drop (length new) old ≡ new
+all-copied new old h = rw (take-length new, drop-of-length-le old h) (append-nil new)
 
 -- ---- a loop that puts piece after piece into its place: k are there, and the rest is as it was
 pub record Grown (piece : ℕ → List ℕ) (size : ℕ) (old out : List ℕ) (k : ℕ) : Type 0 where

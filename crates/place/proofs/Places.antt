@@ -31,6 +31,10 @@ side-good n h =
     let f : n % 4 ≡ 0 = eqb-true (n % 4) 0 (not-false _ (a .1)) in
     record { some = omega arith; short = ltb-false longestSide n (b .1); fours = omega arith }
 
+pub sides-good : (width height : ℕ) → badSide width ≡ false → badSide height ≡ false → badSize width height ≡ false
+unfolding badSize
+sides-good width height w h = rw (w, h)
+
 pub record RowRoom (size width height row : ℕ) : Type 0 where
   pub start : blockAt size width 0 row ≡ row * (along width * size)
   pub next : blockAt size width 0 (row + 1) ≡ row * (along width * size) + along width * size

@@ -9,7 +9,7 @@ const LONGEST_SIDE: usize = 1024;
 // The bytes of a BC4 block.
 pub const BC4_SIZE: usize = 8;
 
-fn bad_side(n: usize) -> bool
+pub fn bad_side(n: usize) -> bool
     ensures { λ r. ⌜ r ≡ badSide n ⌝ }
 {
     (n == 0) | (LONGEST_SIDE < n) | (n % 4 != 0)

@@ -1,4 +1,4 @@
--- Document 01, "Calls and numbers": the refusals, their numbers, and what each call checks, as a list: the first check of it that applies is the answer.
+-- Document 01, "Calls and numbers", and document 02: the refusals, their numbers, and what each call checks, as a list: the first check of it that applies is the answer.
 -- The document's own lists are in number order; nothing here rests on that, and `demands` shows it.
 use mathlib.Core.Bool.{Bool, not, cond}
 use mathlib.Core.List.{List, [], _∷_, _++_}
@@ -9,9 +9,10 @@ use lib.Ieee.{Float, isNan}
 use Rattle.options.specs.declared.Options.{Options}
 use Rattle.place.specs.Place.{badSize, noBlock, bc4Size, encodedLength}
 use Rattle.refusal.specs.declared.Refusal.{Refusal}
-use Rattle.refusal.specs.declared.Refusal.the-variants.{Size, SampleCount, EncodedLength, OutputLength, DitheredResend, NoSuchBlock, SampleIsNan, WordMalformed}
+use Rattle.refusal.specs.declared.Refusal.the-variants.{Size, SampleCount, EncodedLength, OutputLength, DitheredResend, NoSuchBlock, SampleIsNan, WordMalformed, DdsHeader, DdsBody}
 use Rattle.refusal.specs.declared.Checked.{Checked}
 use Rattle.refusal.specs.declared.Checked.the-variants.{Passed, Refused}
+use Rattle.refusal.specs.Fields.{numberFor, whatOf}
 
 -- the document's number of a refusal
 abbrev pub numberOf : Refusal → ℕ
@@ -23,11 +24,14 @@ numberOf DitheredResend = 5
 numberOf NoSuchBlock = 6
 numberOf (SampleIsNan i) = 7
 numberOf WordMalformed = 8
+numberOf (DdsHeader field) = numberFor field
+numberOf DdsBody = 15
 
 -- What a refusal brings with it, as four numbers: what, index, row and column. Where it has something to say all four are written, 0 for what it says
--- nothing about; where it has not they stay as they were. Refusal 7 says the lowest index.
+-- nothing about; where it has not they stay as they were. Refusal 7 says the lowest index, those of a DDS file's headers the field.
 abbrev pub detailOf : Refusal → List ℕ → List ℕ
 detailOf (SampleIsNan i) before = 0 ∷ i ∷ 0 ∷ 0 ∷ []
+detailOf (DdsHeader field) before = whatOf field ∷ 0 ∷ 0 ∷ 0 ∷ []
 detailOf Size before = before
 detailOf SampleCount before = before
 detailOf EncodedLength before = before
@@ -35,6 +39,7 @@ detailOf OutputLength before = before
 detailOf DitheredResend before = before
 detailOf NoSuchBlock before = before
 detailOf WordMalformed before = before
+detailOf DdsBody before = before
 
 -- ---- a check: a refusal, and whether it applies
 pub record Check : Type 0 where

@@ -3,6 +3,7 @@ ghost use mathlib.Core.Path.{_≡_};
 ghost use mathlib.Core.List.{[], _∷_};
 ghost use lib.Dec.{ltb};
 ghost use lib.ListN.{length};
+ghost use Rattle.refusal.specs.Fields.{numberFor, whatOf};
 ghost use Rattle.refusal.specs.Refusals.{numberOf, detailOf, firstOf, orMalformed, firstNan, nanCheck, encodeChecks, decodeChecks, errorChecks, resendChecks, tileChecks, viewChecks};
 use options::Options;
 
@@ -23,11 +24,73 @@ pub enum Refusal {
     SampleIsNan(usize),
     // The options word of a record is malformed.
     WordMalformed,
+    // A field of a DDS file's headers is wrong.
+    DdsHeader(Field),
+    // What follows the headers of a DDS file is not width * height / 2 bytes.
+    DdsBody,
+}
+
+// The fields of a DDS file that a refusal can name.
+pub enum Field {
+    Width,
+    Height,
+    // The first 128 bytes: the file is shorter.
+    Header,
+    // The 20 bytes that DX10 asks for after them: the file is shorter.
+    Extension,
+    Magic,
+    HeaderSize,
+    FourCharacters,
+    ExtensionFormat,
+    MipCount,
+    Depth,
+    CubeFaces,
+    ArraySize,
 }
 
 pub enum Checked {
     Passed,
     Refused(Refusal),
+}
+
+// The number of the refusal that names a field.
+fn number_for(field: Field) -> u8
+    ensures { λ r. ⌜ r ≡ numberFor field ⌝ }
+{
+    match field {
+        Field::Width => 1,
+        Field::Height => 1,
+        Field::Header => 11,
+        Field::Extension => 11,
+        Field::Magic => 12,
+        Field::HeaderSize => 12,
+        Field::FourCharacters => 13,
+        Field::ExtensionFormat => 13,
+        Field::MipCount => 14,
+        Field::Depth => 14,
+        Field::CubeFaces => 14,
+        Field::ArraySize => 14,
+    }
+}
+
+// A field as a number, for a detail.
+fn what_of(field: Field) -> usize
+    ensures { λ r. ⌜ r ≡ whatOf field ⌝ }
+{
+    match field {
+        Field::Width => 1,
+        Field::Height => 2,
+        Field::Header => 3,
+        Field::Extension => 4,
+        Field::Magic => 5,
+        Field::HeaderSize => 6,
+        Field::FourCharacters => 7,
+        Field::ExtensionFormat => 8,
+        Field::MipCount => 9,
+        Field::Depth => 10,
+        Field::CubeFaces => 11,
+        Field::ArraySize => 12,
+    }
 }
 
 pub fn number(refusal: Refusal) -> u8
@@ -42,6 +105,8 @@ pub fn number(refusal: Refusal) -> u8
         Refusal::NoSuchBlock => 6,
         Refusal::SampleIsNan(_) => 7,
         Refusal::WordMalformed => 8,
+        Refusal::DdsHeader(field) => number_for(field),
+        Refusal::DdsBody => 15,
     }
 }
 
@@ -49,8 +114,14 @@ pub fn number(refusal: Refusal) -> u8
 pub fn detail(refusal: Refusal, numbers: &mut [usize; 4])
     ensures { λ _. ⌜ now (numbers .exit) ≡ detailOf refusal (now (numbers .entry)) ⌝ }
 {
-    if let Refusal::SampleIsNan(i) = refusal {
-        *numbers = [0, i, 0, 0];
+    match refusal {
+        Refusal::SampleIsNan(i) => {
+            *numbers = [0, i, 0, 0];
+        }
+        Refusal::DdsHeader(field) => {
+            *numbers = [what_of(field), 0, 0, 0];
+        }
+        _ => {}
     }
 }
 

@@ -1,16 +1,15 @@
 -- `encode_row` meets its contract: each block goes to its place in the stretch.
 use denote.Ref.{now}
 use mathlib.Core.Path.{_≡_, refl, _∙_, ap}
-use mathlib.Core.List.{List, _++_, append-nil}
+use mathlib.Core.List.{append-nil}
 use Prim.Native.Nat.{ℕ, _+_, _*_, _-_, _≤_}
 use native.Mathlib.Omega.{arith}
-use lib.ListN.{length, take, drop, length-take, length-drop, drop-of-length-le}
-use lib.Seq.{take-length}
+use lib.ListN.{length, length-take, length-drop, drop-of-length-le}
 use borrow.Author.Needs.{needs}
 use Rattle.index_list.specs.Layout.{bytesOf}
 use Rattle.encode.specs.Encoder.{compressed}
 use Rattle.place.specs.Place.{along, bc4Size}
-use Rattle.place.proofs.Joined.{Grown, grown-start, grown-step}
+use Rattle.place.proofs.Joined.{all-copied, Grown, grown-start, grown-step}
 use Rattle.tile.specs.Tile.{blockBytes}
 use Rattle.tile.proofs.encode_row.Statement.{statement}
 use Rattle.tile.proofs.encode_row.Tie as tie
@@ -21,10 +20,6 @@ Inv-loop samples width row o out₀ column₀ column-end out column =
 
 abbrev μ-loop : tie.MeasureT-loop
 μ-loop samples width row o out₀ column₀ column-end out column = along width - column
-
--- a copy as long as what it is copied to
-all-copied : (new old : List ℕ) → length old ≤ length new → take (length new) new ++ drop (length new) old ≡ new
-all-copied new old h = rw (take-length new, drop-of-length-le old h) (append-nil new)
 
 loop-holds : tie.Need-loop-holds Inv-loop μ-loop
 loop-holds c = (search needs, grown-start)

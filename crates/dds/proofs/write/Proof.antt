@@ -1,0 +1,89 @@
+use denote.Ref.{now}
+use mathlib.Core.Path.{_≡_, refl, _∙_}
+use mathlib.Core.Bool.{false}
+use Prim.Native.Nat.{ℕ, _+_, _≤_}
+use native.Mathlib.Omega.{arith}
+use lib.ListN.{length, length-take, length-drop}
+use borrow.Author.Tests.{ltb-false}
+use Rattle.place.specs.Place.{badSize, bc4Size, encodedLength}
+use Rattle.place.proofs.Places.{size-small}
+use Rattle.place.proofs.Joined.{all-copied}
+use Rattle.refusal.proofs.Firsts.{passed-clear, same-of}
+use Rattle.dds.specs.Layout.{headerLength, headerOf}
+use Rattle.dds.proofs.Files.{header-length, tile-put}
+use borrow.Author.Needs.{needs}
+use Rattle.dds.proofs.write.Statement.{statement}
+use Rattle.dds.proofs.write.Tie as tie
+
+write-refusal-requires : tie.Need-write-refusal-requires
+write-refusal-requires c κs = search needs
+
+enum-known-checked : tie.Need-enum-known-checked
+enum-known-checked c = search needs
+
+enum-told : tie.Need-enum-told
+enum-told c = search needs
+
+-- what the checks found
+record Room (long width height most : ℕ) : Type 0 where
+  good : badSize width height ≡ false
+  tile : long ≡ encodedLength bc4Size width height
+  out : headerLength + encodedLength bc4Size width height ≤ most
+
+room : (t : tie.After-enum-told) → let a = t .before .before .before .before .before .args in Room (length (now (a .tile))) (a .width) (a .height) (length (now (a .out)))
+room t =
+    let clear = passed-clear _ (t .before .before .write-refusal .ensures) (t .enum-told .given .1) in
+    record { good = clear .0; tile = same-of _ _ (clear .1 .0); out = ltb-false _ _ (clear .1 .1 .0) }
+
+put-requires : tie.Need-put-requires
+put-requires c κs = let r = room (c .before) in (r .good, search needs)
+
+add-end : tie.Need-add-end
+add-end c = search needs
+
+sub-copy : tie.Need-sub-copy
+sub-copy c = search needs
+
+part-copy-start : tie.Need-part-copy-start
+part-copy-start c = search needs
+
+part-copy-end : tie.Need-part-copy-end
+part-copy-end c = let r = room (c .before .before .before .before) in search needs
+
+copy-requires : tie.Need-copy-requires
+copy-requires c κs = search needs
+
+returns : tie.Need-returns
+returns c = (rw (← c .before .before .before .write-refusal .ensures, c .before .checked .given .1), refl)
+
+same-length : tie.Need-same-length
+same-length c = search needs
+
+returns-2 : tie.Need-returns-2
+returns-2 c =
+    let put = c .before .before .before .before .before .before in
+    let t = put .before .before in
+    let a = t .before .before .before .before .before .args in
+    let r = room t in
+    let header = headerOf (a .width) (a .height) (a .snorm) in
+    let copied = c .before .before .copy .ensures .1 ∙ all-copied (now (a .tile)) _ (simp (length-take, length-drop) (omega arith)) in (
+      rw (← t .before .before .write-refusal .ensures, t .enum-told .given .1, r .tile),
+      rw (put .put .ensures, copied) (tile-put header (now (a .tile)) (now (a .out)) headerLength (header-length (a .width) (a .height) (a .snorm))),
+    )
+
+pub write-spec : {M : Type 1} → statement M
+write-spec =
+    tie.close
+    (tie.spec
+    write-refusal-requires
+    enum-known-checked
+    enum-told
+    put-requires
+    add-end
+    sub-copy
+    part-copy-start
+    part-copy-end
+    copy-requires
+    returns
+    same-length
+    returns-2)

@@ -1,0 +1,22 @@
+use native.Mathlib.Nat.{div-one}
+use borrow.Author.Needs.{needs}
+use Rattle.fields.proofs.bytes_u32.Statement.{statement}
+use Rattle.fields.proofs.bytes_u32.Tie as tie
+
+cast-t3 : tie.Need-cast-t3
+cast-t3 c = search needs
+
+cast-t6 : tie.Need-cast-t6
+cast-t6 c = search needs
+
+cast-t9 : tie.Need-cast-t9
+cast-t9 c = search needs
+
+cast-t12 : tie.Need-cast-t12
+cast-t12 c = search needs
+
+returns : tie.Need-returns
+returns c = rw div-one
+
+pub bytes-u32-spec : {M : Type 1} → statement M
+bytes-u32-spec = tie.close (tie.spec cast-t3 cast-t6 cast-t9 cast-t12 returns)
