@@ -1,13 +1,10 @@
--- A promise leaves no choice: two outcomes that a call's contract allows, of one call, are equal. `Post` of a call is its contract as the checker
--- reads it, over the arguments, the result, and what lent memory holds at the end.
-use mathlib.Core.Path.{_≡_, sym, _∙_}
+-- A promise leaves no choice, for each call of `bc4`: two outcomes that its contract allows are equal.
+use mathlib.Core.Path.{sym, _∙_}
 use mathlib.Core.List.{List}
 use Prim.Native.Nat.{ℕ}
-use borrow.Fn.Kinds.{PK, RK, Out, Dens, resT, endedOf}
-use contract.Lifetimes.{Lfts}
-use denote.Triple.Clauses.{AtExit}
 use lib.Ieee.{Float}
 use Rattle.refusal.specs.declared.Checked.{Checked}
+use Rattle.refusal.proofs.Outcomes.{One-answer, One-outcome}
 use Rattle.bc4.specs.declared.Tiled.{Tiled}
 use Rattle.bc4.proofs.encode_block.Kinds as encode-block-kinds
 use Rattle.bc4.proofs.encode_block.Reads as encode-block
@@ -35,15 +32,6 @@ use Rattle.bc4.proofs.encode_tile.Kinds as encode-tile-kinds
 use Rattle.bc4.proofs.encode_tile.Reads as encode-tile
 use Rattle.bc4.proofs.block_view.Kinds as block-view-kinds
 use Rattle.bc4.proofs.block_view.Reads as block-view
-
-module _ (n : ℕ) (ps : List (PK n)) (r : RK n) (post : Out n ps r) where
-  abbrev pub One-answer : Type 0
-  One-answer = (κs : Lfts n) (a : Dens κs ps) (x y : resT r κs .Denot) (s t : AtExit (endedOf n ps r) κs) → post κs a x s → post κs a y t → x ≡ y
-
-  -- the answer, and what lent memory holds
-  abbrev pub One-outcome : (A : Type 0) → ((κs : Lfts n) → resT r κs .Denot → AtExit (endedOf n ps r) κs → A) → Type 0
-  One-outcome A outcome =
-      (κs : Lfts n) (a : Dens κs ps) (x y : resT r κs .Denot) (s t : AtExit (endedOf n ps r) κs) → post κs a x s → post κs a y t → outcome κs x s ≡ outcome κs y t
 
 pub encode-determined : One-answer 1 encode-block-kinds.ps encode-block-kinds.r encode-block.Post
 encode-determined κs a x y s t p q = p ∙ sym q

@@ -1,2 +1,3 @@
 pub mod Headers
 pub mod Files
+pub mod Determined

@@ -4,7 +4,7 @@ use mathlib.Core.Path.{sym, _∙_}
 use mathlib.Core.List.{List}
 use Prim.Native.Nat.{ℕ}
 use lib.Ieee.{Float}
-use Rattle.bc4.proofs.Determined.{One-answer, One-outcome}
+use Rattle.refusal.proofs.Outcomes.{One-answer, One-outcome}
 use Rattle.exports.proofs.bc4_version.Kinds as version-kinds
 use Rattle.exports.proofs.bc4_version.Reads as version
 use Rattle.exports.proofs.bc4_encode_block.Kinds as encode-kinds
@@ -19,6 +19,10 @@ use Rattle.exports.proofs.bc4_encode_tile.Kinds as tile-kinds
 use Rattle.exports.proofs.bc4_encode_tile.Reads as tile
 use Rattle.exports.proofs.bc4_block_view.Kinds as view-kinds
 use Rattle.exports.proofs.bc4_block_view.Reads as view
+use Rattle.exports.proofs.bc4_write_dds.Kinds as write-dds-kinds
+use Rattle.exports.proofs.bc4_write_dds.Reads as write-dds
+use Rattle.exports.proofs.bc4_read_dds.Kinds as read-dds-kinds
+use Rattle.exports.proofs.bc4_read_dds.Reads as read-dds
 
 pub version-determined : One-answer 0 version-kinds.ps version-kinds.r version.Post
 version-determined κs a x y s t p q = p ∙ sym q
@@ -48,3 +52,13 @@ tile-determined κs a x y s t p q = cc
 -- number, offset and detail
 pub view-determined : One-outcome 3 view-kinds.ps view-kinds.r view.Post (ℕ × ℕ × List ℕ) (λ κs x s. (x, s .1 .1 .1 .1 .1 .0 .now, s .1 .1 .1 .1 .1 .1 .0 .now))
 view-determined κs a x y s t p q = cc
+
+-- number, every byte of the output, count and detail
+pub write-dds-determined : One-outcome 4 write-dds-kinds.ps write-dds-kinds.r write-dds.Post (ℕ × List ℕ × ℕ × List ℕ)
+    (λ κs x s. (x, s .1 .1 .1 .1 .0 .now, s .1 .1 .1 .1 .1 .0 .now, s .1 .1 .1 .1 .1 .1 .0 .now))
+write-dds-determined κs a x y s t p q = cc
+
+-- number, width, height, format, offset and detail
+pub read-dds-determined : One-outcome 6 read-dds-kinds.ps read-dds-kinds.r read-dds.Post (ℕ × ℕ × ℕ × ℕ × ℕ × List ℕ)
+    (λ κs x s. (x, s .1 .0 .now, s .1 .1 .0 .now, s .1 .1 .1 .0 .now, s .1 .1 .1 .1 .0 .now, s .1 .1 .1 .1 .1 .0 .now))
+read-dds-determined κs a x y s t p q = cc

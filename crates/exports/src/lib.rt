@@ -1,4 +1,4 @@
-// The calls of `bc4` for C, and for Rust through bindings/rust: include/bc4.h says what each does. Each answers the number of the refusal, or 0, and
+// The calls of `bc4` and `dds` for C, and for Rust through bindings/rust: include/bc4.h says what each does. Each answers the number of the refusal, or 0, and
 // writes its values through references. None asks anything of its arguments: what a pointer and a length must be is the header's to say.
 ghost use mathlib.Core.Path.{_≡_};
 ghost use mathlib.Core.Bool.{cond};
@@ -6,7 +6,9 @@ ghost use lib.ListN.{length};
 ghost use Rattle.refusal.specs.Refusals.{numberOf, detailOf, firstOf, decodeChecks, viewChecks};
 ghost use Rattle.bc4.specs.Calls.{ofEncoded, ofScored, ofResent, ofTiled, samplesAfter, errorAnswer, outAfter};
 ghost use Rattle.bc4.specs.Word.{encodeByWord, resendByWord, tileByWord};
+ghost use Rattle.dds.specs.Calls.{writeAnswer, ofWritten, outAfter as fileAfter, readAnswer, ofFound};
 ghost use Rattle.exports.specs.Border.{wordOfNumber, numberIn, detailAfter, blockAfter, errorAfter, heldAfter, freshAfter, writtenAfter, offsetAfter};
+ghost use Rattle.exports.specs.DdsBorder.{fileWrittenAfter, widthAfter, heightAfter, snormAfter, startAfter};
 use bc4::Checked;
 use bc4::Encoded;
 use bc4::Refusal;
@@ -14,13 +16,15 @@ use bc4::Resent;
 use bc4::Scored;
 use bc4::Tiled;
 use bc4::word::Word;
+use dds::Found;
+use dds::Written;
 
-// Major, minor and patch number, a byte each: 2.0.0.
+// Major, minor and patch number, a byte each: 2.1.0.
 #[no_mangle]
 pub extern "C" fn bc4_version() -> u32
-    ensures { λ r. ⌜ r ≡ 0x020000 ⌝ }
+    ensures { λ r. ⌜ r ≡ 0x020100 ⌝ }
 {
-    0x020000
+    0x020100
 }
 
 fn word_in(options: u32) -> Word
@@ -183,5 +187,60 @@ pub extern "C" fn bc4_block_view(
             *offset = place::block_at(place::BC4_SIZE, width, column, row);
             0
         }
+    }
+}
+
+#[no_mangle]
+pub extern "C" fn bc4_write_dds(
+    tile: &[u8],
+    width: usize,
+    height: usize,
+    snorm: bool,
+    out: &mut [u8],
+    written: &mut usize,
+    detail: &mut [usize; 4],
+) -> u32
+    ensures number { λ r. ⌜ r ≡ numberIn (ofWritten (writeAnswer (length (now (tile .entry))) width height (length (now (out .entry))))) ⌝ }
+    ensures bytes { λ _. ⌜ now (out .exit) ≡ fileAfter (writeAnswer (length (now (tile .entry))) width height (length (now (out .entry)))) (now (tile .entry)) width height snorm (now (out .entry)) ⌝ }
+    ensures written { λ _. ⌜ now (written .exit) ≡ fileWrittenAfter (writeAnswer (length (now (tile .entry))) width height (length (now (out .entry)))) (now (written .entry)) ⌝ }
+    ensures detail { λ _. ⌜ now (detail .exit) ≡ detailAfter (ofWritten (writeAnswer (length (now (tile .entry))) width height (length (now (out .entry))))) (now (detail .entry)) ⌝ }
+{
+    let answer = dds::write(tile, width, height, snorm, out);
+    match answer {
+        Written::Bytes(n) => {
+            *written = n;
+            0
+        }
+        Written::Refused(q) => refused(q, detail),
+    }
+}
+
+// Where the tile's bytes start in the file: a part of a slice does not cross to C.
+#[no_mangle]
+pub extern "C" fn bc4_read_dds(
+    file: &[u8],
+    width: &mut usize,
+    height: &mut usize,
+    snorm: &mut u8,
+    offset: &mut usize,
+    detail: &mut [usize; 4],
+) -> u32
+    ensures number { λ r. ⌜ r ≡ numberIn (ofFound (readAnswer (now (file .entry)))) ⌝ }
+    ensures width { λ _. ⌜ now (width .exit) ≡ widthAfter (readAnswer (now (file .entry))) (now (width .entry)) ⌝ }
+    ensures height { λ _. ⌜ now (height .exit) ≡ heightAfter (readAnswer (now (file .entry))) (now (height .entry)) ⌝ }
+    ensures snorm { λ _. ⌜ now (snorm .exit) ≡ snormAfter (readAnswer (now (file .entry))) (now (snorm .entry)) ⌝ }
+    ensures offset { λ _. ⌜ now (offset .exit) ≡ startAfter (readAnswer (now (file .entry))) (now (offset .entry)) ⌝ }
+    ensures detail { λ _. ⌜ now (detail .exit) ≡ detailAfter (ofFound (readAnswer (now (file .entry)))) (now (detail .entry)) ⌝ }
+{
+    let answer = dds::read(file);
+    match answer {
+        Found::File(picture) => {
+            *width = picture.width;
+            *height = picture.height;
+            *snorm = bit(picture.snorm);
+            *offset = picture.start;
+            0
+        }
+        Found::Refused(q) => refused(q, detail),
     }
 }

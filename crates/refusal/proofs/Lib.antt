@@ -1,3 +1,4 @@
 pub mod Firsts
 pub mod Nans
 pub mod Views
+pub mod Outcomes
