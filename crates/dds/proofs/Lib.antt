@@ -1,3 +1,4 @@
 pub mod Headers
 pub mod Files
+pub mod ReadBack
 pub mod Determined

@@ -1,6 +1,6 @@
 -- Each check says what the table's condition says.
 use mathlib.Core.Path.{_≡_, refl, sym, ap, _∙_}
-use mathlib.Core.Bool.{Bool, true, false, not, cond, _||_, or-assoc}
+use mathlib.Core.Bool.{Bool, true, false, not, cond, _&&_, _||_, or-assoc}
 use mathlib.Core.Logic.{_⊎_, inl, inr}
 use mathlib.Core.List.{List, [], _∷_}
 use Prim.Native.Nat.{ℕ, zero, suc, _%_, _<_, _*_, _/_}
@@ -17,7 +17,8 @@ use Rattle.refusal.specs.declared.Refusal.{Refusal}
 use Rattle.refusal.specs.declared.Refusal.the-variants.{SampleIsNan}
 use Rattle.refusal.specs.Refusals.{when, nanCheck, firstNan}
 use Rattle.bc4.specs.Word.{wordOf}
-use Rattle.demands.specs.Demand1.{BadSide, Missing, BadWord, LowestNan, When, WhenNan, Iff}
+use Rattle.demands.specs.Exactly.{When, Iff}
+use Rattle.demands.specs.Conditions.{BadSide, Missing, BadWord, LowestNan, WhenNan}
 use Rattle.demands.proofs.Refusing.{Same}
 
 pub when-same : {refusal : Refusal} {t : Bool} {P : Type 0} → Iff (t ≡ true) P → Same (when refusal t) (When refusal P)
@@ -27,9 +28,16 @@ when-same f q = (λ x. (x .0, f .0 (x .1)), λ x. (x .0, f .1 (x .1)))
 pub iff-refl : {A : Type 0} → Iff A A
 iff-refl = (λ x. x, λ x. x)
 
-or-iff : (a b : Bool) {A B : Type 0} → Iff (a ≡ true) A → Iff (b ≡ true) B → Iff (a || b ≡ true) (A ⊎ B)
+pub or-iff : (a b : Bool) {A B : Type 0} → Iff (a ≡ true) A → Iff (b ≡ true) B → Iff (a || b ≡ true) (A ⊎ B)
 or-iff true b f g = (λ e. inl (f .0 refl), λ x. refl)
 or-iff false b f g = (λ e. inr (g .0 e), λ x. elim x [ inl y ↦ clash (f .1 y) refl | inr z ↦ g .1 z ])
+
+pub and-iff : (a b : Bool) {A B : Type 0} → Iff (a ≡ true) A → Iff (b ≡ true) B → Iff (a && b ≡ true) (A × B)
+and-iff true b f g = (λ e. (f .0 refl, g .0 e), λ x. g .1 (x .1))
+and-iff false b f g = (λ e. clash e refl, λ x. f .1 (x .0))
+
+pub equal-iff : (m n : ℕ) → Iff (eqb m n ≡ true) (m ≡ n)
+equal-iff m n = (eqb-true m n, eq-eqb m n)
 
 pub unequal-iff : (m n : ℕ) → Iff (not (eqb m n) ≡ true) (m ≡ n → ⊥)
 unequal-iff m n = (λ e. eqb-false m n (not-true (eqb m n) e), λ f. ap not (ne-eqb m n f))
@@ -37,12 +45,12 @@ unequal-iff m n = (λ e. eqb-false m n (not-true (eqb m n) e), λ f. ap not (ne-
 pub below-iff : (m n : ℕ) → Iff (ltb m n ≡ true) (m < n)
 below-iff m n = (ltb-true m n, lt-ltb m n)
 
-side-iff : (n : ℕ) → Iff (badSide n ≡ true) (BadSide n)
+pub side-iff : (n : ℕ) → Iff (badSide n ≡ true) (BadSide n)
 unfolding badSide
-side-iff n = rw (or-assoc (eqb n 0) (ltb longestSide n)) (or-iff _ _ (eqb-true n 0, eq-eqb n 0) (or-iff _ _ (below-iff longestSide n) (unequal-iff (n % 4) 0)))
+side-iff n = rw (or-assoc (eqb n 0) (ltb longestSide n)) (or-iff _ _ (equal-iff n 0) (or-iff _ _ (below-iff longestSide n) (unequal-iff (n % 4) 0)))
 
 -- the bytes of a tile in the document's words
-half : (width height : ℕ) → encodedLength bc4Size width height ≡ width * height / 2
+pub half : (width height : ℕ) → encodedLength bc4Size width height ≡ width * height / 2
 half width height = omega arith
 
 pub output-iff : (room width height : ℕ) → Iff (ltb room (encodedLength bc4Size width height) ≡ true) (room < width * height / 2)

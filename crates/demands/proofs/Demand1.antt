@@ -1,5 +1,5 @@
 -- Demand 1.
-use mathlib.Core.Path.{_≡_, refl}
+use mathlib.Core.Path.{_≡_, refl, sym}
 use mathlib.Core.List.{List}
 use Prim.Native.Nat.{ℕ}
 use lib.Dec.{T}
@@ -16,10 +16,16 @@ use Rattle.bc4.specs.declared.Tiled.the-variants.{Written, Refused as NotTiled}
 use Rattle.refusal.specs.Refusals.{Check, firstOf, answered, encodeChecks, resendChecks, tileChecks}
 use Rattle.refusal.proofs.Firsts.{refusal-of}
 use Rattle.bc4.specs.Word.{wordOf}
+use Rattle.dds.specs.declared.Written.the-variants.{Bytes, Refused as NotWritten}
+use Rattle.dds.specs.declared.Found.the-variants.{File, Refused as NotFound}
+use Rattle.dds.specs.Checks.{readChecks}
+use Rattle.dds.specs.Calls.{ofWritten, ofFound, readAnswer}
 use Rattle.bc4.specs.Calls.{ofEncoded, ofScored, ofResent, ofTiled}
-use Rattle.demands.specs.Demand1.{Condition, Exactly, InNumberOrder, Demand1, EncodeRefuses, ResendRefuses, TileRefuses}
+use Rattle.demands.specs.Exactly.{Condition, Exactly, InNumberOrder}
+use Rattle.demands.specs.Demand1.{Demand1, EncodeRefuses, ResendRefuses, TileRefuses}
 use Rattle.demands.proofs.Refusing.{Alike, end, then, at-last, ascends, exactly, in-order}
 use Rattle.demands.proofs.Conditions.{when-same, iff-refl, unequal-iff, output-iff, encoded-iff, size-iff, place-iff, word-iff, nan-same}
+use Rattle.demands.proofs.DdsConditions.{read-alike, write-alike}
 
 -- ---- each check of a call is its condition
 encode-alike : (s : List Float) → Alike (encodeChecks s) (EncodeRefuses s)
@@ -38,6 +44,9 @@ module _ {A : Type 0} (of : A → Checked) (refused : Refusal → A) (value : A)
   answer-in-order : {cs : List Check} {Cs : List Condition} → Alike cs Cs → T (ascends 0 cs) → InNumberOrder (of (answered refused value (firstOf cs))) Cs
   answer-in-order {cs} alike a = rw (refusal-of of refused value passed back (firstOf cs)) (in-order alike a)
 
+read-refusal : (file : List ℕ) → ofFound (readAnswer file) ≡ firstOf (readChecks file)
+read-refusal file = refusal-of ofFound NotFound (File _) refl (λ q. refl) (firstOf (readChecks file))
+
 pub demand-1 : Demand1
 demand-1 = record {
   encode = λ s o. answer-in-order ofEncoded NotEncoded (Block _) refl (λ q. refl) (encode-alike s) tt;
@@ -54,7 +63,12 @@ demand-1 = record {
       answer-in-order ofResent NotResent (Answered _) refl (λ q. refl) (at-last (resend-alike s held (wordOf flags limit quality last .options)) (when-same (word-iff flags limit quality last))) tt;
   tile-word = λ s width height out flags limit quality last.
       answer-in-order ofTiled NotTiled (Written _) refl (λ q. refl) (at-last (tile-alike s width height out) (when-same (word-iff flags limit quality last))) tt;
+  write-dds = λ tile width height out. answer-in-order ofWritten NotWritten (Bytes _) refl (λ q. refl) (write-alike tile width height out) tt;
+  read-dds = λ file. rw (read-refusal file) (exactly (read-alike file));
+  read-dds-refusal = λ file. sym (read-refusal file);
   decode-leaves = λ q encoded snorm before. refl;
   tile-leaves = λ q samples width height o before. refl;
   view-empty = λ q tile width height column row e. rw e;
+  write-dds-leaves = λ q tile width height snorm before. refl;
+  read-dds-empty = λ q file e. rw e;
 }

@@ -2,7 +2,9 @@ pub mod Flat
 pub mod WorkedValues
 pub mod Refusing
 pub mod Conditions
+pub mod DdsConditions
 pub mod Demand1
+pub mod DdsFiles
 pub mod Demand2
 pub mod Series
 pub mod Demand3

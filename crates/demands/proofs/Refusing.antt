@@ -12,7 +12,7 @@ use Rattle.refusal.specs.declared.Refusal.{Refusal}
 use Rattle.refusal.specs.declared.Checked.the-variants.{Refused}
 use Rattle.refusal.specs.Refusals.{numberOf, Check, firstOf}
 use Rattle.refusal.proofs.Firsts.{apart}
-use Rattle.demands.specs.Demand1.{Condition, Iff, AnyOf, Exactly, InNumberOrder}
+use Rattle.demands.specs.Exactly.{Condition, Iff, AnyOf, Exactly, InNumberOrder}
 
 -- a check and a condition say the same
 abbrev pub Same : Check → Condition → Type 0

@@ -20,7 +20,7 @@ use Rattle.bc4.specs.declared.Kept.{Kept}
 use Rattle.bc4.specs.declared.Resent.the-variants.{Block as Answered}
 use Rattle.bc4.specs.Calls.{betterOf, resendAnswer}
 use Rattle.bc4.proofs.Resends.{stays-or-replaced}
-use Rattle.demands.specs.Demand1.{Iff}
+use Rattle.demands.specs.Exactly.{Iff}
 use Rattle.demands.specs.Demand3.{heldAfter, series, AllIn, StaysOrBetter}
 
 -- where a resend is not refused, what is held are eight bytes: read as a number and laid out again they are the same

@@ -1,80 +1,53 @@
--- Demand 1: a refusal is exactly the numbered one of document 01's table, and changes no byte of a lent buffer. The conditions are written in the
--- table's words, for each call as a list in the order in which they are looked at; the answers are those that the contracts of `bc4` cite. That every call ends with an answer, for every input, is what a contract
+-- Demand 1: a refusal is exactly the numbered one of its call's table, and changes no byte of a lent buffer. Each call has its conditions as a list, in the
+-- order in which they are looked at; the answers are those that the contracts of `bc4` and `dds` cite. That every call ends with an answer, for every input, is what a contract
 -- without `requires` says.
 use mathlib.Core.Path.{_≡_}
-use mathlib.Core.Bool.{Bool, true, false}
+use mathlib.Core.Bool.{Bool, true}
 use mathlib.Core.Logic.{_⊎_}
 use mathlib.Core.List.{List, [], _∷_, _++_}
-use Prim.Native.Nat.{ℕ, _*_, _/_, _%_, _<_, _≤_}
+use Prim.Native.Nat.{ℕ, _+_, _*_, _/_, _<_}
 use lib.ListN.{length}
-use lib.Ieee.{Float, isNan}
-use Rattle.block.specs.Samples.{pixelAt}
+use lib.Ieee.{Float}
 use Rattle.options.specs.declared.Options.{Options}
 use Rattle.refusal.specs.declared.Refusal.{Refusal}
-use Rattle.refusal.specs.declared.Refusal.the-variants.{Size, SampleCount, EncodedLength, OutputLength, DitheredResend, NoSuchBlock, SampleIsNan, WordMalformed}
-use Rattle.refusal.specs.declared.Checked.{Checked}
-use Rattle.refusal.specs.declared.Checked.the-variants.{Passed, Refused}
+use Rattle.refusal.specs.declared.Refusal.the-variants.{Size, SampleCount, EncodedLength, OutputLength, DitheredResend, NoSuchBlock, WordMalformed, DdsBody}
+use Rattle.refusal.specs.declared.Field.the-variants.{Width, Height, Header, Extension, Magic, HeaderSize, FourCharacters, ExtensionFormat, MipCount, Depth, CubeFaces, ArraySize}
+use Rattle.refusal.specs.declared.Checked.the-variants.{Refused}
 use Rattle.bc4.specs.declared.Tiled.the-variants.{Refused as NotTiled}
-use Rattle.refusal.specs.Refusals.{numberOf, firstOf, decodeChecks, viewChecks}
+use Rattle.dds.specs.declared.Written.the-variants.{Refused as NotWritten}
+use Rattle.refusal.specs.Refusals.{firstOf, decodeChecks, viewChecks}
 use Rattle.bc4.specs.Word.{wordOf, encodeByWord, resendByWord, tileByWord}
 use Rattle.bc4.specs.Calls.{ofEncoded, ofScored, ofResent, ofTiled, encodeAnswer, samplesAfter, errorAnswer, resendAnswer, tileAnswer, outAfter, viewOf}
+use Rattle.dds.specs.Layout.{ddsMagic, bc4u, bc4s, dx10}
+use Rattle.dds.specs.Checks.{readChecks}
+use Rattle.dds.specs.Calls.{ofWritten, ofFound, writeAnswer, outAfter as fileAfter, readAnswer, bodyOf}
+use Rattle.demands.specs.Exactly.{Condition, When, WhenUnequal, Exactly, InNumberOrder}
+use Rattle.demands.specs.Conditions.{BadSide, Missing, BadWord, WhenNan, field, four, WhenWrong, NoneOf, CubeFace, BadBody}
 
--- ---- the table's conditions
--- 1
-abbrev pub BadSide : ℕ → Type 0
-BadSide n = (n ≡ 0) ⊎ (1024 < n) ⊎ (n % 4 ≡ 0 → ⊥)
-
--- 6
-abbrev pub Missing : ℕ → ℕ → ℕ → ℕ → Type 0
-Missing width height column row = (width / 4 ≤ column) ⊎ (height / 4 ≤ row)
-
--- 7, with the lowest index
-pub record LowestNan (samples : List Float) (i : ℕ) : Type 0 where
-  pub within : i < length samples
-  pub there : isNan (pixelAt samples i) ≡ true
-  pub none-lower : (j : ℕ) → j < i → isNan (pixelAt samples j) ≡ false
-
--- 8, quality and last being bytes 2 and 3 of the word
-abbrev pub BadWord : ℕ → ℕ → Type 0
-BadWord quality last = (2 < quality) ⊎ (last ≡ 0 → ⊥)
-
--- ---- a condition: which refusals it gives
-abbrev pub Condition : Type 1
-Condition = Refusal → Type 0
-
-abbrev pub When : Refusal → Type 0 → Condition
-When refusal condition q = (q ≡ refusal) × condition
-
-abbrev pub WhenUnequal : Refusal → ℕ → ℕ → Condition
-WhenUnequal refusal m n = When refusal (m ≡ n → ⊥)
-
-abbrev pub WhenNan : List Float → Condition
-WhenNan samples q = (i : ℕ) × (q ≡ SampleIsNan i) × LowestNan samples i
-
--- ---- which conditions each call looks at, and in which order: 2, 7
+-- ---- which conditions each call looks at, and in which order. Encode: 2, 7
 abbrev pub EncodeRefuses : List Float → List Condition
 EncodeRefuses samples = WhenUnequal SampleCount (length samples) 16 ∷ WhenNan samples ∷ []
 
--- 3
+-- decode: 3
 abbrev pub DecodeRefuses : List ℕ → List Condition
 DecodeRefuses encoded = WhenUnequal EncodedLength (length encoded) 8 ∷ []
 
--- 2, 3, 7
+-- block error: 2, 3, 7
 abbrev pub ErrorRefuses : List Float → List ℕ → List Condition
 ErrorRefuses samples encoded = WhenUnequal SampleCount (length samples) 16 ∷ WhenUnequal EncodedLength (length encoded) 8 ∷ WhenNan samples ∷ []
 
--- 2, 3, 5, 7
+-- resend: 2, 3, 5, 7
 abbrev pub ResendRefuses : List Float → List ℕ → Options → List Condition
 ResendRefuses samples held o =
     WhenUnequal SampleCount (length samples) 16 ∷ WhenUnequal EncodedLength (length held) 8 ∷ When DitheredResend (o .dither ≡ true) ∷ WhenNan samples ∷ []
 
--- 1, 2, 4, 7
+-- encode tile: 1, 2, 4, 7
 abbrev pub TileRefuses : List Float → ℕ → ℕ → List ℕ → List Condition
 TileRefuses samples width height out =
     When Size (BadSide width ⊎ BadSide height) ∷ WhenUnequal SampleCount (length samples) (width * height)
     ∷ When OutputLength (length out < width * height / 2) ∷ WhenNan samples ∷ []
 
--- 1, 3, 6
+-- view: 1, 3, 6
 abbrev pub ViewRefuses : List ℕ → ℕ → ℕ → ℕ → ℕ → List Condition
 ViewRefuses tile width height column row =
     When Size (BadSide width ⊎ BadSide height) ∷ WhenUnequal EncodedLength (length tile) (width * height / 2)
@@ -84,28 +57,21 @@ ViewRefuses tile width height column row =
 abbrev pub ThenBadWord : List Condition → ℕ → ℕ → List Condition
 ThenBadWord conditions quality last = conditions ++ When WordMalformed (BadWord quality last) ∷ []
 
--- ---- exactly when
-abbrev pub Iff : Type 0 → Type 0 → Type 0
-Iff P Q = (P → Q) × (Q → P)
+-- write a DDS file: 1, 3, 4
+abbrev pub WriteRefuses : List ℕ → ℕ → ℕ → List ℕ → List Condition
+WriteRefuses tile width height out =
+    When Size (BadSide width ⊎ BadSide height) ∷ WhenUnequal EncodedLength (length tile) (width * height / 2)
+    ∷ When OutputLength (length out < 128 + width * height / 2) ∷ []
 
--- a condition of the list gives q, and none that stands before it gives any
-abbrev pub FirstOf : List Condition → Refusal → Type 0
-FirstOf [] q = ⊥
-FirstOf (C ∷ Cs) q = C q ⊎ (((p : Refusal) → C p → ⊥) × FirstOf Cs q)
-
-abbrev pub AnyOf : List Condition → Refusal → Type 0
-AnyOf [] q = ⊥
-AnyOf (C ∷ Cs) q = C q ⊎ AnyOf Cs q
-
--- Refusal q is given if and only if its condition holds and none before it in the call's list does; none is given if and only if no condition holds.
-pub record Exactly (answer : Checked) (conditions : List Condition) : Type 0 where
-  pub refused : (q : Refusal) → Iff (answer ≡ Refused q) (FirstOf conditions q)
-  pub passed : Iff (answer ≡ Passed) ((q : Refusal) → AnyOf conditions q → ⊥)
-
--- Document 01: "Checks run in number order; the lowest that applies is returned, and none otherwise." So no condition that holds is for a lower number.
-pub record InNumberOrder (answer : Checked) (conditions : List Condition) : Type 0 where
-  pub exactly : Exactly answer conditions
-  pub lowest : (q p : Refusal) → answer ≡ Refused q → AnyOf conditions p → numberOf q ≤ numberOf p
+-- read one: 11, 12, 13, 14, 1, 15, with the field that is wrong; inside a number fields come in the order of the document's sentence
+abbrev pub ReadRefuses : List ℕ → List Condition
+ReadRefuses file =
+    WhenWrong Header (length file < 128) ∷ WhenWrong Extension ((four file ≡ dx10) × (length file < 148))
+    ∷ WhenWrong Magic (field file 0 ≡ ddsMagic → ⊥) ∷ WhenWrong HeaderSize (field file 4 ≡ 124 → ⊥)
+    ∷ WhenWrong FourCharacters (NoneOf (four file) (bc4u ∷ bc4s ∷ dx10 ∷ [])) ∷ WhenWrong ExtensionFormat ((four file ≡ dx10) × NoneOf (field file 128) (80 ∷ 81 ∷ []))
+    ∷ WhenWrong MipCount (1 < field file 28) ∷ WhenWrong Depth (1 < field file 24) ∷ WhenWrong CubeFaces (CubeFace (field file 112))
+    ∷ WhenWrong ArraySize ((four file ≡ dx10) × (field file 140 ≡ 1 → ⊥))
+    ∷ WhenWrong Width (BadSide (field file 16)) ∷ WhenWrong Height (BadSide (field file 12)) ∷ When DdsBody (BadBody file) ∷ []
 
 pub record Demand1 : Type 0 where
   pub encode : (samples : List Float) (o : Options) → InNumberOrder (ofEncoded (encodeAnswer samples o)) (EncodeRefuses samples)
@@ -125,9 +91,18 @@ pub record Demand1 : Type 0 where
   pub tile-word : (samples : List Float) (width height : ℕ) (out : List ℕ) (flags limit quality last : ℕ)
       → InNumberOrder (ofTiled (tileByWord samples width height (wordOf flags limit quality last) (length out)))
       (ThenBadWord (TileRefuses samples width height out) quality last)
+  -- DDS files; the numbers of a read are not in order
+  pub write-dds : (tile : List ℕ) (width height : ℕ) (out : List ℕ)
+      → InNumberOrder (ofWritten (writeAnswer (length tile) width height (length out))) (WriteRefuses tile width height out)
+  pub read-dds : (file : List ℕ) → Exactly (ofFound (readAnswer file)) (ReadRefuses file)
+  -- the companion of a read tells the same refusal
+  pub read-dds-refusal : (file : List ℕ) → firstOf (readChecks file) ≡ ofFound (readAnswer file)
   -- a refused call leaves lent memory as it was, a tile call by word too (`outAfter` of the word's options), and a refused view is empty
   pub decode-leaves : (q : Refusal) (encoded : List ℕ) (snorm : Bool) (before : List Float) → samplesAfter (Refused q) encoded snorm before ≡ before
   pub tile-leaves : (q : Refusal) (samples : List Float) (width height : ℕ) (o : Options) (before : List ℕ)
       → outAfter (NotTiled q) samples width height o before ≡ before
   pub view-empty : (q : Refusal) (tile : List ℕ) (width height column row : ℕ)
       → firstOf (viewChecks (length tile) width height column row) ≡ Refused q → viewOf tile width height column row ≡ []
+  pub write-dds-leaves : (q : Refusal) (tile : List ℕ) (width height : ℕ) (snorm : Bool) (before : List ℕ)
+      → fileAfter (NotWritten q) tile width height snorm before ≡ before
+  pub read-dds-empty : (q : Refusal) (file : List ℕ) → firstOf (readChecks file) ≡ Refused q → bodyOf file ≡ []

@@ -28,7 +28,7 @@ use Rattle.bc4.specs.declared.Kept.{Kept}
 use Rattle.bc4.specs.declared.Resent.{Resent}
 use Rattle.bc4.specs.declared.Resent.the-variants.{Block as Answered, Refused as NotResent}
 use Rattle.bc4.specs.Calls.{resendAnswer}
-use Rattle.demands.specs.Demand1.{Iff}
+use Rattle.demands.specs.Exactly.{Iff}
 
 abbrev pub errorOf : Kind → List Float → Pair → Float
 errorOf kind b p = paletteError kind b (p .0) (p .1)

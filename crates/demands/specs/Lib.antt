@@ -1,3 +1,5 @@
+pub mod Exactly
+pub mod Conditions
 pub mod Demand1
 pub mod Demand2
 pub mod Demand3
@@ -5,3 +7,4 @@ pub mod EncoderSteps
 pub mod WorkedValues
 pub mod Literals
 pub mod RoundTrip
+pub mod DdsFiles

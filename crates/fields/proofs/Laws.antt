@@ -40,9 +40,9 @@ from-take (suc n) (b ∷ bs) all =
     let above : (b + 2 ^ 8 * fromBytes bs) / 2 ^ 8 ≡ fromBytes bs = omega arith in
     rw (e, mod-pow-add, above, from-take n bs (λ i l. all (suc i) (omega arith))) (omega arith)
 
--- The bytes of a number hold it, where they are enough.
-pub field-back : (n x : ℕ) → n ≤ 8 → x < 2 ^ (8 * n) → fromBytes (fieldOf n x) ≡ x
-field-back n x le lt =
-    let e : 64 - 8 * n + 8 * n ≡ 64 = omega arith in
-    let low : x % 2 ^ 64 % 2 ^ (8 * n) ≡ x % 2 ^ (8 * n) = rw e at (mod-mod-pow x (64 - 8 * n) (8 * n)) in
-    from-take n (bytesOf x) (bytes-all x) ∙ rw (from-bytesOf x) (low ∙ mod-eq-of-lt lt)
+-- Where the n bytes of a number stand, a field holds its 8n low bits.
+pub field-holds : (n x : ℕ) (bytes : List ℕ) (at : ℕ) → n ≤ 8 → take n (drop at bytes) ≡ fieldOf n x → fieldAt n bytes at ≡ x % 2 ^ (8 * n)
+field-holds n x bytes at le e =
+    let all : 64 - 8 * n + 8 * n ≡ 64 = omega arith in
+    let low : x % 2 ^ 64 % 2 ^ (8 * n) ≡ x % 2 ^ (8 * n) = rw all at (mod-mod-pow x (64 - 8 * n) (8 * n)) in
+    ap fromBytes e ∙ from-take n (bytesOf x) (bytes-all x) ∙ rw (from-bytesOf x) low

@@ -1,9 +1,9 @@
 // Document 01, "The program": what stands in a record of 68 bytes.
 ghost use mathlib.Core.Path.{_≡_};
-ghost use Prim.Native.Nat.{_+_, _<_, _≤_};
+ghost use Prim.Native.Nat.{_<_};
 ghost use lib.ListN.{length};
 ghost use lib.Ieee.{binary32, ofBits};
-ghost use Rattle.lines.specs.Input.{recordWord, fourBytes, patternAt, samplesOf};
+ghost use Rattle.lines.specs.Input.{recordWord, patternAt, samplesOf};
 use bc4::word::Word;
 
 // The first four bytes.
@@ -14,27 +14,12 @@ pub fn read_word(bytes: &[u8]) -> Word
     bc4::word::read(bytes[0], bytes[1], bytes[2], bytes[3])
 }
 
-fn wide(x: u8) -> u32
-    ensures { λ r. ⌜ (r ≡ x) × (r < 256) ⌝ }
-{
-    x as u32
-}
-
-// Four bytes from `at` on, little-endian.
-pub fn four_bytes(bytes: &[u8], at: usize) -> u32
-    requires { ⌜ at + 4 ≤ length (now bytes) ⌝ }
-    ensures { λ r. ⌜ r ≡ fourBytes (now (bytes .entry)) at ⌝ }
-{
-    wide(bytes[at])
-        + 256 * (wide(bytes[at + 1]) + 256 * (wide(bytes[at + 2]) + 256 * wide(bytes[at + 3])))
-}
-
 // The bits of sample i.
 fn pattern(bytes: &[u8], i: usize) -> u32
     requires { ⌜ (length (now bytes) ≡ 68) × (i < 16) ⌝ }
     ensures { λ r. ⌜ r ≡ patternAt (now (bytes .entry)) i ⌝ }
 {
-    four_bytes(bytes, 4 + 4 * i)
+    fields::read_u32(bytes, 4 + 4 * i)
 }
 
 // A NaN is made by a division: `from_bits` is not defined at its bits.

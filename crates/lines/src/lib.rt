@@ -5,7 +5,7 @@ ghost use lib.ListN.{length};
 ghost use Rattle.lines.specs.Answers.{answerOf, lineOf, linesTo, textOf, AtStart};
 ghost use Rattle.lines.specs.Output.{Holds};
 
-pub mod input;
+mod input;
 mod output;
 
 use bc4::Encoded;

@@ -31,6 +31,10 @@ side-good n h =
     let f : n % 4 ≡ 0 = eqb-true (n % 4) 0 (not-false _ (a .1)) in
     record { some = omega arith; short = ltb-false longestSide n (b .1); fours = omega arith }
 
+pub good-sides : (width height : ℕ) → badSize width height ≡ false → (badSide width ≡ false) × (badSide height ≡ false)
+unfolding badSize
+good-sides width height good = neither _ _ good
+
 pub sides-good : (width height : ℕ) → badSide width ≡ false → badSide height ≡ false → badSize width height ≡ false
 unfolding badSize
 sides-good width height w h = rw (w, h)
@@ -44,8 +48,7 @@ pub record RowRoom (size width height row : ℕ) : Type 0 where
 
 module _ (width height : ℕ) (good : badSize width height ≡ false) where
   pub size-good : Side width × Side height
-  unfolding badSize
-  size-good = let g = neither _ _ good in (side-good width (g .0), side-good height (g .1))
+  size-good = let g = good-sides width height good in (side-good width (g .0), side-good height (g .1))
 
   -- so that the area fits a word
   pub size-small : width * height ≤ longestSide * longestSide

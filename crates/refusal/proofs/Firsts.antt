@@ -44,6 +44,11 @@ first-clear (c ∷ cs) e = go (c .applies) refl e (first-clear cs)
     go true a e rest = absurd (apart e)
     go false a e rest = (a, rest e)
 
+pub clear-passed : (cs : List Check) → Clear cs → firstOf cs ≡ Passed
+unfolding firstOf
+clear-passed [] clear = refl
+clear-passed (c ∷ cs) clear = rw (clear .0) (clear-passed cs (clear .1))
+
 pub passed-clear : (cs : List Check) {checked : Checked} → checked ≡ firstOf cs → checked ≡ Passed → Clear cs
 passed-clear cs e p = first-clear cs (sym e ∙ p)
 

@@ -6,13 +6,13 @@ use lib.Dec.{eqb}
 use lib.ListN.{length, take, drop}
 use Rattle.bc4.specs.declared.Encoded.{Encoded}
 use Rattle.bc4.specs.declared.Encoded.the-variants.{Block, Refused}
-use Rattle.lines.specs.Input.{fourBytes}
+use Rattle.fields.specs.Fields.{fieldAt}
 use Rattle.replay.specs.declared.Tally.{Tally}
 use Rattle.lines.specs.Answers.{answerOf}
 
 -- the eight bytes of the Rust, byte 0 lowest
 abbrev pub rustOf : List ℕ → ℕ
-rustOf entry = fourBytes entry 68 + 2 ^ 32 * fourBytes entry 72
+rustOf entry = fieldAt 4 entry 68 + 2 ^ 32 * fieldAt 4 entry 72
 
 unfoldable pub unlike : Encoded → ℕ → Bool
 unlike (Block b) rust = not (eqb b rust)

@@ -26,10 +26,7 @@ fn differs(entry: &[u8]) -> bool
     requires { ⌜ length (now entry) ≡ 76 ⌝ }
     ensures { λ r. ⌜ r ≡ differsOf (now (entry .entry)) ⌝ }
 {
-    let rust = joined(
-        lines::input::four_bytes(entry, 68),
-        lines::input::four_bytes(entry, 72),
-    );
+    let rust = joined(fields::read_u32(entry, 68), fields::read_u32(entry, 72));
     let answer = lines::answer_to(&entry[..68]);
     match answer {
         Encoded::Block(block) => block != rust,

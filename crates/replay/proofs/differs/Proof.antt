@@ -6,11 +6,11 @@ use borrow.Author.Needs.{needs}
 use Rattle.replay.proofs.differs.Statement.{statement}
 use Rattle.replay.proofs.differs.Tie as tie
 
-four-bytes-requires : tie.Need-four-bytes-requires
-four-bytes-requires c κs = search needs
+read-u32-requires : tie.Need-read-u32-requires
+read-u32-requires c κs = search needs
 
-four-bytes-requires-2 : tie.Need-four-bytes-requires-2
-four-bytes-requires-2 c κs = search needs
+read-u32-requires-2 : tie.Need-read-u32-requires-2
+read-u32-requires-2 c κs = search needs
 
 joined-requires : tie.Need-joined-requires
 joined-requires c κs = search needs
@@ -32,7 +32,7 @@ unfolding differsOf unlike
 returns c =
     let a = c .before .before .before in
     let j = a .before .before in
-    rw (← a .answer-to .ensures, c .before .answer .given .1, j .joined .ensures, j .before .four-bytes2 .ensures, j .before .before .four-bytes .ensures)
+    rw (← a .answer-to .ensures, c .before .answer .given .1, j .joined .ensures, j .before .read-u322 .ensures, j .before .before .read-u32 .ensures)
 
 returns-2 : tie.Need-returns-2
 unfolding differsOf unlike
@@ -42,8 +42,8 @@ pub differs-spec : {M : Type 1} → statement M
 differs-spec =
     tie.close
     (tie.spec
-    four-bytes-requires
-    four-bytes-requires-2
+    read-u32-requires
+    read-u32-requires-2
     joined-requires
     slice-aggregate-answer-to
     answer-to-requires

@@ -1,0 +1,184 @@
+-- What is promised of DDS files.
+use mathlib.Core.Path.{_≡_, refl, sym, ap, _∙_}
+use mathlib.Core.Bool.{Bool, true, false, cond, _||_}
+use mathlib.Core.Logic.{_⊎_, inl, inr}
+use mathlib.Core.List.{List, [], _∷_, _++_}
+use Prim.Native.Nat.{ℕ, _+_, _*_, _/_, _%_, _^_, _<_, _≤_}
+use native.Mathlib.Nat.{mod-eq-of-lt}
+use native.Mathlib.Omega.{arith}
+use lib.Dec.{T, eqb, eqb→eq, lit<}
+use lib.ListN.{length, take, drop, getD, length-drop, getD-replicate}
+use lib.Seq.{take-at, drop-at, getD-take, getD-drop}
+use borrow.Author.Tests.{ltb-false, eqb-true}
+use Rattle.floats.proofs.Tests.{clash}
+use Rattle.floats.proofs.Table.{all, at}
+use Rattle.fields.specs.Fields.{fieldAt}
+use Rattle.place.specs.Place.{badSize, bc4Size, encodedLength}
+use Rattle.place.proofs.Places.{size-good, size-small}
+use Rattle.refusal.specs.declared.Checked.{Checked}
+use Rattle.refusal.specs.declared.Checked.the-variants.{Passed, Refused}
+use Rattle.refusal.specs.Refusals.{firstOf, answered}
+use Rattle.refusal.proofs.Firsts.{first-clear, same-of}
+use Rattle.dds.specs.declared.Written.{Written}
+use Rattle.dds.specs.declared.Written.the-variants.{Bytes, Refused as NotWritten}
+use Rattle.dds.specs.declared.Found.{Found}
+use Rattle.dds.specs.declared.Found.the-variants.{File, Refused as NotFound}
+use Rattle.dds.specs.declared.Picture.{Picture}
+use Rattle.dds.specs.Layout.{headerLength, bc4u, bc4s, dx10, headerFields, headerField, fileOf, widthIn, heightIn, extended, formatIn, arraySizeIn, bodyAt}
+use Rattle.dds.specs.Checks.{writeChecks, readChecks}
+use Rattle.dds.specs.Calls.{writeAnswer, pictureIn, readAnswer, bodyOf}
+use Rattle.dds.proofs.Files.{file-length, file-body, field-stands, field-reads}
+use Rattle.dds.proofs.ReadBack.{width-back, height-back, read-back}
+use Rattle.demands.specs.Conditions.{field, four}
+use Rattle.demands.specs.DdsFiles.{setFields, Elsewhere, Header, Agree, DdsFiles}
+use Rattle.demands.proofs.Conditions.{half}
+
+-- ---- a tile that is accepted
+record Accepted (tile : List ℕ) (width height n : ℕ) : Type 0 where
+  good : badSize width height ≡ false
+  long : length tile ≡ encodedLength bc4Size width height
+  count : n ≡ 128 + length tile
+
+accepted : (tile : List ℕ) (width height room n : ℕ) → writeAnswer (length tile) width height room ≡ Bytes n → Accepted tile width height n
+accepted tile width height room n e = go (firstOf (writeChecks (length tile) width height room)) refl e
+  where
+    go : (c : Checked) → firstOf (writeChecks (length tile) width height room) ≡ c → answered NotWritten (Bytes (headerLength + encodedLength bc4Size width height)) c ≡ Bytes n
+        → Accepted tile width height n
+    go Passed p e =
+        let clear = first-clear (writeChecks (length tile) width height room) p in
+        let long : length tile ≡ encodedLength bc4Size width height = same-of _ _ (clear .1 .0) in
+        let count : headerLength + encodedLength bc4Size width height ≡ n = cc in
+        record { good = clear .0; long = long; count = omega arith }
+    go (Refused q) p e = absurd (let z : _≡_ {A = ℕ} 0 1 = cc in omega arith)
+
+-- ---- zero elsewhere
+abbrev listed : ℕ → List ℕ → Bool
+listed n [] = false
+listed n (at ∷ ats) = eqb n at || listed n ats
+
+-- a byte of a field that is listed is not elsewhere
+not-elsewhere : (i : ℕ) (ats : List ℕ) → listed (4 * (i / 4)) ats ≡ true → Elsewhere i ats → ⊥
+not-elsewhere i [] l e = clash l refl
+not-elsewhere i (at ∷ ats) l e = go (eqb (4 * (i / 4)) at) refl l (not-elsewhere i ats)
+  where
+    go : (t : Bool) → eqb (4 * (i / 4)) at ≡ t → t || listed (4 * (i / 4)) ats ≡ true → (listed (4 * (i / 4)) ats ≡ true → Elsewhere i ats → ⊥) → ⊥
+    go true same l rest = let here = eqb-true (4 * (i / 4)) at same in elim (e .0) [ inl p ↦ omega arith | inr q ↦ omega arith ]
+    go false same l rest = rest l (e .1)
+
+module _ (tile : List ℕ) (width height : ℕ) (snorm : Bool) where
+  -- every field is listed or 0
+  abbrev set-or-zero : ℕ → Bool
+  set-or-zero k = listed (4 * k) setFields || eqb (getD (headerFields width height snorm) k 0) 0
+
+  every : T (all set-or-zero 32)
+  every = tt
+
+  byte-stands : (i : ℕ) → i < 128 → getD (fileOf tile width height snorm) i 0 ≡ getD (headerField width height snorm (i / 4)) (i % 4) 0
+  byte-stands i h =
+      let file = fileOf tile width height snorm in
+      let place : 4 * (i / 4) + i % 4 ≡ i = omega arith in
+      let there : getD (take 4 (drop (4 * (i / 4)) file)) (i % 4) 0 ≡ getD file (4 * (i / 4) + i % 4) 0 = getD-take 4 (drop (4 * (i / 4)) file) (i % 4) 0 (omega arith) ∙ getD-drop (4 * (i / 4)) file (i % 4) 0 in
+      sym (ap (λ k. getD file k 0) place) ∙ sym there ∙ ap (λ l. getD l (i % 4) 0) (field-stands tile width height snorm (i / 4) (omega arith))
+
+  zero-elsewhere : (i : ℕ) → i < 128 → Elsewhere i setFields → getD (fileOf tile width height snorm) i 0 ≡ 0
+  zero-elsewhere i h e = byte-stands i h ∙ go (listed (4 * (i / 4)) setFields) refl (at set-or-zero 32 every (i / 4) (omega arith))
+    where
+      go : (t : Bool) → listed (4 * (i / 4)) setFields ≡ t → T (t || eqb (getD (headerFields width height snorm) (i / 4) 0) 0) → getD (headerField width height snorm (i / 4)) (i % 4) 0 ≡ 0
+      go true l z = absurd (not-elsewhere i setFields l e)
+      go false l z = rw (eqb→eq (getD (headerFields width height snorm) (i / 4) 0) 0 z) (getD-replicate 4 (i % 4) 0 0 (omega arith))
+
+-- ---- the header
+characters : (snorm : Bool) → take 4 (headerField 0 0 snorm 21) ≡ cond snorm (0x42 ∷ 0x43 ∷ 0x34 ∷ 0x53 ∷ []) (0x42 ∷ 0x43 ∷ 0x34 ∷ 0x55 ∷ [])
+characters true = refl
+characters false = refl
+
+header : (tile : List ℕ) (width height : ℕ) (snorm : Bool) → badSize width height ≡ false → length tile ≡ encodedLength bc4Size width height
+    → Header (fileOf tile width height snorm) tile width height snorm
+header tile width height snorm good long =
+    let reads = field-reads tile width height snorm in
+    let small = size-small width height good in
+    record {
+      long = file-length tile width height snorm;
+      magic = field-stands tile width height snorm 0 (lit< tt);
+      header-size = reads 1 (lit< tt);
+      flags = reads 2 (lit< tt);
+      height-field = height-back tile width height snorm good long;
+      width-field = width-back tile width height snorm good long;
+      linear-size = reads 5 (lit< tt) ∙ mod-eq-of-lt (omega arith) ∙ half width height;
+      mip-count = reads 7 (lit< tt);
+      pixel-size = reads 19 (lit< tt);
+      pixel-flags = reads 20 (lit< tt);
+      characters = field-stands tile width height snorm 21 (lit< tt) ∙ characters snorm;
+      caps = reads 27 (lit< tt);
+      zero = zero-elsewhere tile width height snorm;
+      body = file-body tile width height snorm;
+    }
+
+-- ---- a read looks at named fields and the length alone
+module _ (f g : List ℕ) (a : Agree f g) where
+  same-extended : extended f ≡ extended g
+  same-extended = ap (λ c. eqb c dx10) (a .four-characters)
+
+  same-format : formatIn f ≡ formatIn g
+  unfolding formatIn
+  same-format = rw (← same-extended, ← a .four-characters) (go (extended f) refl)
+    where
+      go : (t : Bool) → extended f ≡ t → cond t (field f 128) (cond (eqb (four f) bc4s) 81 80) ≡ cond t (field g 128) (cond (eqb (four f) bc4s) 81 80)
+      go true e = a .extension (eqb-true (four f) dx10 e) .0
+      go false e = refl
+
+  same-array : arraySizeIn f ≡ arraySizeIn g
+  unfolding arraySizeIn
+  same-array = rw (← same-extended) (go (extended f) refl)
+    where
+      go : (t : Bool) → extended f ≡ t → cond t (field f 140) 1 ≡ cond t (field g 140) 1
+      go true e = a .extension (eqb-true (four f) dx10 e) .1
+      go false e = refl
+
+  same-body : bodyAt f ≡ bodyAt g
+  unfolding bodyAt
+  same-body = rw same-extended
+
+  same-checks : readChecks f ≡ readChecks g
+  same-checks = rw (a .long, a .four-characters, a .magic, a .header-size, same-format, a .mip-count, a .depth, a .caps2, same-array, a .width, a .height, same-body)
+
+  same-picture : pictureIn f ≡ pictureIn g
+  unfolding pictureIn
+  same-picture = rw (a .width, a .height, same-format, same-body)
+
+  same-answer : readAnswer f ≡ readAnswer g
+  same-answer = rw (same-checks, same-picture)
+
+-- ---- where the body is
+body-of : (file : List ℕ) (p : Picture) → readAnswer file ≡ File p → (bodyOf file ≡ drop (p .start) file) × (length (bodyOf file) ≡ p .width * p .height / 2)
+unfolding pictureIn
+body-of file p e = go (firstOf (readChecks file)) refl e
+  where
+    go : (c : Checked) → firstOf (readChecks file) ≡ c → answered NotFound (File (pictureIn file)) c ≡ File p → (bodyOf file ≡ drop (p .start) file) × (length (bodyOf file) ≡ p .width * p .height / 2)
+    go Passed passed e =
+        let same : pictureIn file ≡ p = cc in
+        let clear = first-clear (readChecks file) passed in
+        let long : length file ≡ bodyAt file + encodedLength bc4Size (widthIn file) (heightIn file) = same-of _ _ (clear .1 .1 .1 .1 .1 .1 .1 .1 .1 .1 .1 .1 .0) in
+        rw (← same, passed) (refl, simp length-drop (omega (arith, half (widthIn file) (heightIn file))))
+    go (Refused q) passed e = absurd (let z : _≡_ {A = ℕ} 0 1 = cc in omega arith)
+
+-- what was written is the file
+module _ (tile : List ℕ) (width height : ℕ) (snorm : Bool) (before : List ℕ) (n : ℕ) (ok : Accepted tile width height n) where
+  file-written : take n (fileOf tile width height snorm ++ drop n before) ≡ fileOf tile width height snorm
+  file-written = take-at (fileOf tile width height snorm) (drop n before) n (file-length tile width height snorm ∙ sym (ok .count))
+
+  rest-stays : drop n (fileOf tile width height snorm ++ drop n before) ≡ drop n before
+  rest-stays = drop-at (fileOf tile width height snorm) (drop n before) n (file-length tile width height snorm ∙ sym (ok .count))
+
+pub dds-files : DdsFiles
+dds-files = record {
+  written = λ tile width height snorm before n e.
+      let ok = accepted tile width height (length before) n e in
+      (rw (file-written tile width height snorm before n ok) (header tile width height snorm (ok .good) (ok .long)), rest-stays tile width height snorm before n ok);
+  back = λ tile width height snorm before n e.
+      let ok = accepted tile width height (length before) n e in
+      rw (file-written tile width height snorm before n ok) (read-back tile width height snorm (ok .good) (ok .long));
+  body = body-of;
+  alone = same-answer;
+  spelled = (refl, refl, refl, refl);
+}

@@ -1,0 +1,62 @@
+-- The conditions of the documents' tables, in their words: over lengths, numbers and bytes, not the tests of the code.
+use mathlib.Core.Path.{_≡_}
+use mathlib.Core.Bool.{true, false}
+use mathlib.Core.Logic.{_⊎_}
+use mathlib.Core.List.{List, [], _∷_}
+use Prim.Native.Nat.{ℕ, _+_, _*_, _/_, _%_, _^_, _<_, _≤_}
+use lib.ListN.{length}
+use lib.Ieee.{Float, isNan}
+use Rattle.block.specs.Samples.{pixelAt}
+use Rattle.fields.specs.Fields.{fieldAt}
+use Rattle.refusal.specs.declared.Refusal.the-variants.{SampleIsNan, DdsHeader}
+use Rattle.refusal.specs.declared.Field.{Field}
+use Rattle.dds.specs.Layout.{dx10}
+use Rattle.demands.specs.Exactly.{Condition, When}
+
+-- ---- document 01
+-- 1
+abbrev pub BadSide : ℕ → Type 0
+BadSide n = (n ≡ 0) ⊎ (1024 < n) ⊎ (n % 4 ≡ 0 → ⊥)
+
+-- 6
+abbrev pub Missing : ℕ → ℕ → ℕ → ℕ → Type 0
+Missing width height column row = (width / 4 ≤ column) ⊎ (height / 4 ≤ row)
+
+-- 7, with the lowest index
+pub record LowestNan (samples : List Float) (i : ℕ) : Type 0 where
+  pub within : i < length samples
+  pub there : isNan (pixelAt samples i) ≡ true
+  pub none-lower : (j : ℕ) → j < i → isNan (pixelAt samples j) ≡ false
+
+-- 8, quality and last being bytes 2 and 3 of the word
+abbrev pub BadWord : ℕ → ℕ → Type 0
+BadWord quality last = (2 < quality) ⊎ (last ≡ 0 → ⊥)
+
+abbrev pub WhenNan : List Float → Condition
+WhenNan samples q = (i : ℕ) × (q ≡ SampleIsNan i) × LowestNan samples i
+
+-- ---- document 02, 1/12: DDS files
+-- four bytes of a file as a number, and its four characters
+abbrev pub field : List ℕ → ℕ → ℕ
+field = fieldAt 4
+
+abbrev pub four : List ℕ → ℕ
+four file = field file 84
+
+-- 11 to 14 and 1, with the field
+abbrev pub WhenWrong : Field → Type 0 → Condition
+WhenWrong f = When (DdsHeader f)
+
+abbrev pub NoneOf : ℕ → List ℕ → Type 0
+NoneOf x [] = Unit {0}
+NoneOf x (y ∷ ys) = (x ≡ y → ⊥) × NoneOf x ys
+
+-- 14: one of the six face bits, 0xFC00
+abbrev pub CubeFace : ℕ → Type 0
+CubeFace caps2 = (k : ℕ) × (10 ≤ k) × (k < 16) × (caps2 / 2 ^ k % 2 ≡ 1)
+
+-- 15: the headers are 148 bytes with DX10, else 128
+abbrev pub BadBody : List ℕ → Type 0
+BadBody file =
+    let body = field file 16 * field file 12 / 2 in
+    ((four file ≡ dx10) × (length file ≡ 148 + body → ⊥)) ⊎ ((four file ≡ dx10 → ⊥) × (length file ≡ 128 + body → ⊥))
