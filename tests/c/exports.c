@@ -1,87 +1,30 @@
-/* Calls every export with right and wrong arguments, and compares numbers, values and every byte that was lent. Standard input is
-   crates/replay/stdin: records and the Rust's blocks for them. Exits with 1 where anything differs. */
-#include <stdio.h>
+/* Calls every export but those for DDS files (tests/c/dds.c) with right and wrong arguments, and compares numbers, values and every byte that was lent.
+   Standard input is crates/replay/stdin: records and the Rust's blocks for them. Exits with 1 where anything differs. */
 #include <string.h>
 #include <unistd.h>
 #include "bc4.h"
+#include "lent.h"
 
-static long checks, differ;
-
-static void expect(bool holds, int line, const char *what) {
-  checks++;
-  if (!holds) {
-    differ++;
-    printf("tests/c/exports.c:%d: %s\n", line, what);
-  }
-}
-#define EXPECT(holds) expect((holds), __LINE__, #holds)
-
-/* ---- what a call is lent: a stretch of bytes with a fill on both sides, and what the stretch held before the call */
-#define SIDE 64
 #define MOST 16384
-typedef struct {
-  uint8_t bytes[SIDE + MOST + SIDE];
-  uint8_t before[MOST];
-  size_t length;
-} lent;
-
-static lent samples, encoded, block, out, fresh, written, detail, error, decoded, offset;
+LENT(samples, MOST);
+LENT(encoded, MOST);
+LENT(block, MOST);
+LENT(out, MOST);
+LENT(fresh, MOST);
+LENT(written, MOST);
+LENT(detail, MOST);
+LENT(error, MOST);
+LENT(decoded, MOST);
+LENT(offset, MOST);
 static lent *const all[] = {&samples, &encoded, &block, &out, &fresh, &written, &detail, &error, &decoded, &offset};
 
-static void *at(lent *l) { return l->bytes + SIDE; }
-
-static void lend(lent *l, size_t length) {
-  memset(l->bytes, 0xa5, sizeof l->bytes);
-  memcpy(l->before, at(l), MOST);
-  l->length = length;
-}
-
-static void put(lent *l, const void *from, size_t length) {
-  memcpy(at(l), from, length);
-  memcpy(l->before, at(l), MOST);
-}
-
 static void lend_all(void) {
-  lend(&samples, 0);
-  lend(&encoded, 0);
-  lend(&block, 8);
-  lend(&out, 0);
-  lend(&fresh, 1);
-  lend(&written, sizeof(size_t));
-  lend(&detail, sizeof(bc4_detail));
-  lend(&error, sizeof(float));
-  lend(&decoded, 16 * sizeof(float));
-  lend(&offset, sizeof(size_t));
+  for (size_t i = 0; i < sizeof all / sizeof *all; i++) lend(all[i], MOST);
 }
 
-/* What a call was to write is given back first, by `take`; then every byte of every stretch and of its sides is as before. */
-static void take(lent *l, void *to, size_t length) {
-  memcpy(to, at(l), length);
-  memcpy(at(l), l->before, length);
-}
+static bool untouched(void) { return as_before(all, sizeof all / sizeof *all); }
 
-static bool untouched(void) {
-  for (size_t i = 0; i < sizeof all / sizeof *all; i++) {
-    const lent *l = all[i];
-    if (memcmp(l->bytes + SIDE, l->before, MOST) != 0) return false;
-    for (size_t k = 0; k < SIDE; k++)
-      if (l->bytes[k] != 0xa5 || l->bytes[SIDE + MOST + k] != 0xa5) return false;
-  }
-  return true;
-}
-
-static size_t taken_size(lent *l) {
-  size_t n;
-  take(l, &n, sizeof n);
-  return n;
-}
-
-/* A refusal that says an index and nothing else: every field is written. */
-static bool told_index(size_t index) {
-  bc4_detail d;
-  take(&detail, &d, sizeof d);
-  return d.what == 0 && d.index == index && d.row == 0 && d.column == 0;
-}
+static bool told_index(size_t index) { return told(&detail, 0, index); }
 
 /* ---- samples and blocks */
 static float nan_of(void) {
@@ -91,14 +34,10 @@ static float nan_of(void) {
   return x;
 }
 
-static void lend_samples(float x, size_t count) {
-  for (size_t i = 0; i < count; i++) memcpy(samples.bytes + SIDE + i * sizeof x, &x, sizeof x);
-  memcpy(samples.before, at(&samples), MOST);
-}
+static void set_sample(size_t i, float x) { put(&samples, i * sizeof x, &x, sizeof x); }
 
-static void set_sample(size_t i, float x) {
-  memcpy(samples.bytes + SIDE + i * sizeof x, &x, sizeof x);
-  memcpy(samples.before, at(&samples), MOST);
+static void lend_samples(float x, size_t count) {
+  for (size_t i = 0; i < count; i++) set_sample(i, x);
 }
 
 static const uint8_t zeros[8] = {0, 0, 0, 0, 0, 0, 0, 0};
@@ -163,7 +102,7 @@ static uint32_t decode(size_t length, bool snorm) { return bc4_decode_block(at(&
 static void decodes(const uint8_t *bytes, bool snorm, double num, double den) {
   float got[16];
   lend_all();
-  put(&encoded, bytes, 8);
+  put(&encoded, 0, bytes, 8);
   EXPECT(decode(8, snorm) == BC4_OK);
   take(&decoded, got, sizeof got);
   for (size_t i = 0; i < 16; i++) {
@@ -198,7 +137,7 @@ static void scores(float x, const uint8_t *bytes, bool snorm, float expected) {
   float got;
   lend_all();
   lend_samples(x, 16);
-  put(&encoded, bytes, 8);
+  put(&encoded, 0, bytes, 8);
   EXPECT(score(16, 8, snorm) == BC4_OK);
   take(&error, &got, sizeof got);
   EXPECT(got == expected);
@@ -232,7 +171,7 @@ static void resends(float x, uint32_t options, const uint8_t *held, const uint8_
   uint8_t got[8], flag;
   lend_all();
   lend_samples(x, 16);
-  put(&encoded, held, 8);
+  put(&encoded, 0, held, 8);
   EXPECT(resend(16, 8, options) == BC4_OK);
   take(&block, got, 8);
   take(&fresh, &flag, 1);
@@ -341,21 +280,12 @@ static void block_views(void) {
   EXPECT(view(48, 8, 12, (size_t)-1, (size_t)-1) == BC4_NO_SUCH_BLOCK && untouched());
 }
 
-/* ---- stack: how far down a call writes, seen in a stretch below the stack pointer that was filled before */
+/* ---- stack */
 static uint32_t stack_options;
 static void encode_once(void) { encode(16, stack_options); }
 static void score_once(void) { score(16, 8, false); }
 static void resend_once(void) { resend(16, 8, stack_options); }
 static void tile_once(void) { tile(64, 8, 8, stack_options, 32); }
-
-__attribute__((noinline)) static long stack_of(void (*call)(void)) {
-  volatile uint8_t *frame = __builtin_frame_address(0);
-  long below;
-  for (below = 512; below < 32768; below++) frame[-below] = 0xa5;
-  call();
-  for (below = 32767; below > 512 && frame[-below] == 0xa5;) below--;
-  return below;
-}
 
 static void stack(void) {
   static void (*const calls[])(void) = {encode_once, score_once, resend_once, tile_once};
@@ -363,7 +293,7 @@ static void stack(void) {
   lend_all();
   lend_samples(0.5f, 64);
   for (size_t i = 0; i < 64; i++) set_sample(i, (float)(i * 7919 % 1009) / 1009.0f);
-  put(&encoded, zeros, 8);
+  put(&encoded, 0, zeros, 8);
   for (size_t k = 0; k < sizeof calls / sizeof *calls; k++)
     for (size_t j = 0; j < sizeof sets / sizeof *sets; j++) {
       stack_options = sets[j];
@@ -386,7 +316,7 @@ static void replayed(void) {
     if (have < sizeof entry) break;
     count++;
     lend_all();
-    put(&samples, entry + 4, 64);
+    put(&samples, 0, entry + 4, 64);
     EXPECT(encode(16, entry[0] | BC4_MAX_REFINE_ITER(entry[1]) | (uint32_t)entry[2] << 16 | (uint32_t)entry[3] << 24) == BC4_OK);
     take(&block, got, 8);
     EXPECT(memcmp(got, entry + 68, 8) == 0);
@@ -406,6 +336,5 @@ int main(void) {
   block_views();
   stack();
   replayed();
-  printf("tests/c/exports.c: %ld checks, %ld differ\n", checks, differ);
-  return differ != 0;
+  return counted(__FILE__);
 }

@@ -15,6 +15,9 @@ fn main() -> Result<(), bc4::Refusal> {
     }
     let back = bc4::decode_block(&block, false)?;
     let error = bc4::block_error(&samples, &block, false)?;
-    println!("\n{:.3} became {:.3}; squared error of the block: {error:.4}", samples[5], back[5]);
+    println!(
+        "\n{:.3} became {:.3}; squared error of the block: {error:.4}",
+        samples[5], back[5]
+    );
     Ok(())
 }

@@ -1,4 +1,4 @@
-//! Safe calls of the proved BC4 block codec: sixteen samples in eight bytes.
+//! Safe calls of the proved BC4 block codec: sixteen samples in eight bytes, and DDS files of such blocks.
 //!
 //! The codec is the static library that `rt staticlib exports` writes, for x86-64 Linux. A build has to be told where it stands, and nothing else:
 //!
@@ -14,6 +14,17 @@
 //! let block = bc4::encode_block(&samples, bc4::Options::default())?;
 //! assert_eq!(block, [255, 0, 0, 0, 0, 0, 0, 0]);
 //! assert_eq!(bc4::decode_block(&block, false)?, samples);
+//! # Ok::<(), bc4::Refusal>(())
+//! ```
+//!
+//! A DDS file of one tile is written into bytes of the caller, and read where it stands:
+//!
+//! ```
+//! let (mut tile, mut file) = ([0; 16], [0; 144]);
+//! bc4::encode_tile(&[1.0; 32], 8, 4, bc4::Options::default(), &mut tile)?;
+//! bc4::write_dds(&tile, 8, 4, false, &mut file)?;
+//! let picture = bc4::read_dds(&file)?;
+//! assert_eq!((picture.width, picture.height, picture.tile), (8, 4, &tile[..]));
 //! # Ok::<(), bc4::Refusal>(())
 //! ```
 #![no_std]
@@ -78,9 +89,29 @@ extern "C" {
         offset: *mut usize,
         detail: *mut Detail,
     ) -> u32;
+    fn bc4_write_dds(
+        tile: *const u8,
+        tile_length: usize,
+        width: usize,
+        height: usize,
+        snorm: bool,
+        out: *mut u8,
+        out_length: usize,
+        written: *mut usize,
+        detail: *mut Detail,
+    ) -> u32;
+    fn bc4_read_dds(
+        file: *const u8,
+        file_length: usize,
+        width: *mut usize,
+        height: *mut usize,
+        snorm: *mut u8,
+        offset: *mut usize,
+        detail: *mut Detail,
+    ) -> u32;
 }
 
-/// What a refusal says besides its number, as the library writes it. No refusal says anything but an index yet.
+/// What a refusal says besides its number, as the library writes it: `what`, a field of a DDS file, or an index. No refusal says a row or a column yet.
 #[repr(C)]
 #[derive(Clone, Copy, Default)]
 #[allow(dead_code)]
@@ -137,16 +168,92 @@ impl Options {
     }
 }
 
+/// What is wrong in the headers of a DDS file. A number stands there in four bytes, the lowest first.
+#[derive(Clone, Copy, Debug, PartialEq, Eq)]
+pub enum Field {
+    /// At byte 16: 0, over 1,024 or no multiple of 4.
+    Width,
+    /// At byte 12: 0, over 1,024 or no multiple of 4.
+    Height,
+    /// The first 128 bytes, which are not all there.
+    Header,
+    /// The 20 bytes from 128 on that DX10 asks for, which are not all there.
+    Extension,
+    /// At byte 0: not `DDS` and a blank.
+    Magic,
+    /// At byte 4: not 124.
+    HeaderSize,
+    /// At byte 84: none of `BC4U`, `BC4S`, `DX10`.
+    FourCharacters,
+    /// At byte 128, with DX10: neither 80 nor 81.
+    ExtensionFormat,
+    /// At byte 28: over 1.
+    MipCount,
+    /// At byte 24: over 1.
+    Depth,
+    /// At byte 112: one of the bits 0xFC00, a face of a cube each.
+    CubeFaces,
+    /// At byte 140, with DX10: not 1.
+    ArraySize,
+}
+
+impl Field {
+    /// By the number that the library says in [`Detail::what`].
+    fn said(what: usize) -> Field {
+        match what {
+            1 => Field::Width,
+            2 => Field::Height,
+            3 => Field::Header,
+            4 => Field::Extension,
+            5 => Field::Magic,
+            6 => Field::HeaderSize,
+            7 => Field::FourCharacters,
+            8 => Field::ExtensionFormat,
+            9 => Field::MipCount,
+            10 => Field::Depth,
+            11 => Field::CubeFaces,
+            12 => Field::ArraySize,
+            _ => unreachable!("the library has no other field"),
+        }
+    }
+}
+
+/// What is wrong with it.
+///
+/// ```
+/// assert_eq!(bc4::Field::MipCount.to_string(), "the mip count (at byte 28) is over 1");
+/// ```
+impl fmt::Display for Field {
+    fn fmt(&self, f: &mut fmt::Formatter<'_>) -> fmt::Result {
+        f.write_str(match self {
+            Field::Width => "the width (at byte 16) is 0, over 1,024 or no multiple of 4",
+            Field::Height => "the height (at byte 12) is 0, over 1,024 or no multiple of 4",
+            Field::Header => "the file is shorter than a DDS header, 128 bytes",
+            Field::Extension => "the file is shorter than a DDS header with DX10, 148 bytes",
+            Field::Magic => "the file does not begin with DDS and a blank",
+            Field::HeaderSize => "the header size (at byte 4) is not 124",
+            Field::FourCharacters => {
+                "the four characters (at byte 84) are none of BC4U, BC4S, DX10"
+            }
+            Field::ExtensionFormat => "the format after DX10 (at byte 128) is neither 80 nor 81",
+            Field::MipCount => "the mip count (at byte 28) is over 1",
+            Field::Depth => "the depth (at byte 24) is over 1",
+            Field::CubeFaces => "the flags at byte 112 name a face of a cube (bits 0xFC00)",
+            Field::ArraySize => "the array size (at byte 140) is not 1",
+        })
+    }
+}
+
 /// Why a call gives no value.
 #[derive(Clone, Copy, Debug, PartialEq, Eq)]
 pub enum Refusal {
-    /// 1: a side of the tile is 0, over 1,024 or no multiple of 4.
+    /// 1: a side of the tile is 0, over 1,024 or no multiple of 4. Of a DDS file that is read, it is [`Refusal::DdsHeader`] with the side.
     Size,
     /// 2: the sample count is not 16, or not width * height.
     SampleCount,
     /// 3: the encoded length is not 8, or not width * height / 2.
     EncodedLength,
-    /// 4: the output is shorter than width * height / 2.
+    /// 4: the output is shorter than width * height / 2, for a file than 128 + width * height / 2.
     OutputLength,
     /// 5: a resend with dither.
     DitheredResend,
@@ -156,13 +263,19 @@ pub enum Refusal {
     SampleIsNan(usize),
     /// 8: the options word is malformed. [`Options`] never make such a word.
     WordMalformed,
+    /// 1 and 11 to 14: a DDS file is none of one BC4 tile; the field that says so.
+    DdsHeader(Field),
+    /// 15: the bytes after the headers of a DDS file are not exactly width * height / 2.
+    DdsBody,
 }
 
 impl Refusal {
     /// The number that C sees.
     ///
     /// ```
-    /// assert_eq!(bc4::Refusal::SampleIsNan(3).number(), 7);
+    /// use bc4::{Field, Refusal};
+    /// assert_eq!(Refusal::SampleIsNan(3).number(), 7);
+    /// assert_eq!(Refusal::DdsHeader(Field::Depth).number(), 14);
     /// ```
     pub fn number(self) -> u32 {
         match self {
@@ -174,6 +287,14 @@ impl Refusal {
             Refusal::NoSuchBlock => 6,
             Refusal::SampleIsNan(_) => 7,
             Refusal::WordMalformed => 8,
+            Refusal::DdsHeader(field) => match field {
+                Field::Width | Field::Height => 1,
+                Field::Header | Field::Extension => 11,
+                Field::Magic | Field::HeaderSize => 12,
+                Field::FourCharacters | Field::ExtensionFormat => 13,
+                Field::MipCount | Field::Depth | Field::CubeFaces | Field::ArraySize => 14,
+            },
+            Refusal::DdsBody => 15,
         }
     }
 }
@@ -188,11 +309,17 @@ impl fmt::Display for Refusal {
             Refusal::EncodedLength => {
                 f.write_str("the encoded length is not 8, or not width * height / 2")
             }
-            Refusal::OutputLength => f.write_str("the output is shorter than width * height / 2"),
+            Refusal::OutputLength => f.write_str(
+                "the output is shorter than width * height / 2, for a file than 128 + width * height / 2",
+            ),
             Refusal::DitheredResend => f.write_str("a resend with dither"),
             Refusal::NoSuchBlock => f.write_str("the tile has no such block"),
             Refusal::SampleIsNan(i) => write!(f, "sample {i} is NaN"),
             Refusal::WordMalformed => f.write_str("the options word is malformed"),
+            Refusal::DdsHeader(field) => field.fmt(f),
+            Refusal::DdsBody => {
+                f.write_str("the bytes after the DDS headers are not exactly width * height / 2")
+            }
         }
     }
 }
@@ -202,7 +329,8 @@ impl core::error::Error for Refusal {}
 fn checked(number: u32, detail: Detail) -> Result<(), Refusal> {
     Err(match number {
         0 => return Ok(()),
-        1 => Refusal::Size,
+        // Only the call that reads a file names the side; every other one leaves the detail as it was lent, all 0.
+        1 if detail.what == 0 => Refusal::Size,
         2 => Refusal::SampleCount,
         3 => Refusal::EncodedLength,
         4 => Refusal::OutputLength,
@@ -210,6 +338,8 @@ fn checked(number: u32, detail: Detail) -> Result<(), Refusal> {
         6 => Refusal::NoSuchBlock,
         7 => Refusal::SampleIsNan(detail.index),
         8 => Refusal::WordMalformed,
+        1 | 11..=14 => Refusal::DdsHeader(Field::said(detail.what)),
+        15 => Refusal::DdsBody,
         _ => unreachable!("the library has no other number"),
     })
 }
@@ -217,7 +347,7 @@ fn checked(number: u32, detail: Detail) -> Result<(), Refusal> {
 /// Major, minor and patch number of the library, a byte each.
 ///
 /// ```
-/// assert_eq!(bc4::version(), 0x020000);
+/// assert_eq!(bc4::version(), 0x020100);
 /// ```
 pub fn version() -> u32 {
     // SAFETY: it takes nothing.
@@ -420,6 +550,100 @@ pub fn block_view(
     };
     checked(number, detail)?;
     Ok(&tile[offset..offset + 8])
+}
+
+/// Writes an encoded tile as a DDS file into the first 128 + width * height / 2 bytes of `out`, and answers that count: a header with `BC4U`, with `snorm`
+/// `BC4S`, and then the tile's bytes. Later bytes of `out` stay as they are, and on a refusal all do.
+///
+/// Refuses [`Refusal::Size`], [`Refusal::EncodedLength`], [`Refusal::OutputLength`].
+///
+/// ```
+/// use bc4::{write_dds, Refusal};
+/// let mut out = [7; 140];
+/// assert_eq!(write_dds(&[1; 8], 4, 4, false, &mut out), Ok(136));
+/// assert_eq!((&out[..4], &out[84..88]), (&b"DDS "[..], &b"BC4U"[..]));
+/// assert_eq!(out[128..], [1, 1, 1, 1, 1, 1, 1, 1, 7, 7, 7, 7]);
+/// assert_eq!(write_dds(&[1; 8], 4, 8, false, &mut out), Err(Refusal::EncodedLength));
+/// assert_eq!(write_dds(&[1; 8], 4, 4, false, &mut out[..135]), Err(Refusal::OutputLength));
+/// ```
+pub fn write_dds(
+    tile: &[u8],
+    width: usize,
+    height: usize,
+    snorm: bool,
+    out: &mut [u8],
+) -> Result<usize, Refusal> {
+    let (mut written, mut detail) = (0, Detail::default());
+    // SAFETY: as for `encode_tile`.
+    let number = unsafe {
+        bc4_write_dds(
+            tile.as_ptr(),
+            tile.len(),
+            width,
+            height,
+            snorm,
+            out.as_mut_ptr(),
+            out.len(),
+            &mut written,
+            &mut detail,
+        )
+    };
+    checked(number, detail)?;
+    Ok(written)
+}
+
+/// The tile that a DDS file holds.
+#[derive(Clone, Copy, Debug, PartialEq, Eq)]
+pub struct Picture<'a> {
+    /// In samples.
+    pub width: usize,
+    /// In samples.
+    pub height: usize,
+    /// Whether the blocks are signed.
+    pub snorm: bool,
+    /// Its blocks, width * height / 2 bytes, for [`block_view`]: that part of the file, not a copy.
+    pub tile: &'a [u8],
+}
+
+/// Reads a DDS file of one BC4 tile. Fields of its headers that no refusal names may hold anything.
+///
+/// Refuses [`Refusal::DdsHeader`], with [`Field::Header`], [`Field::Extension`], [`Field::Magic`], [`Field::HeaderSize`], [`Field::FourCharacters`],
+/// [`Field::ExtensionFormat`], [`Field::MipCount`], [`Field::Depth`], [`Field::CubeFaces`], [`Field::ArraySize`], [`Field::Width`], [`Field::Height`], and
+/// [`Refusal::DdsBody`].
+///
+/// ```
+/// use bc4::{read_dds, write_dds, Field, Picture, Refusal};
+/// let tile: [u8; 16] = std::array::from_fn(|i| i as u8);
+/// let mut file = [0; 144];
+/// write_dds(&tile, 8, 4, true, &mut file)?;
+/// assert_eq!(read_dds(&file), Ok(Picture { width: 8, height: 4, snorm: true, tile: &tile }));
+/// assert_eq!(read_dds(&file[..143]), Err(Refusal::DdsBody));
+/// file[28] = 2;
+/// assert_eq!(read_dds(&file), Err(Refusal::DdsHeader(Field::MipCount)));
+/// # Ok::<(), bc4::Refusal>(())
+/// ```
+pub fn read_dds(file: &[u8]) -> Result<Picture<'_>, Refusal> {
+    let (mut width, mut height, mut snorm, mut offset) = (0, 0, 0, 0);
+    let mut detail = Detail::default();
+    // SAFETY: as for `encode_block`.
+    let number = unsafe {
+        bc4_read_dds(
+            file.as_ptr(),
+            file.len(),
+            &mut width,
+            &mut height,
+            &mut snorm,
+            &mut offset,
+            &mut detail,
+        )
+    };
+    checked(number, detail)?;
+    Ok(Picture {
+        width,
+        height,
+        snorm: snorm == 1,
+        tile: &file[offset..],
+    })
 }
 
 #[cfg(test)]
