@@ -17,6 +17,8 @@ from fractions import Fraction
 from functools import lru_cache
 from math import ceil, floor
 
+from dds_rules import Refused, header, reading
+
 FORMATS = ["BC4U", "BC4S", "DX10 80", "DX10 81"]
 checks = differences = 0
 
@@ -73,39 +75,6 @@ def parted(pixel):
 
 
 # ---- DDS files
-
-
-def header(width, height, form):
-    """What our writer has to put before the blocks, and for DX10 the same with the extension."""
-    fields = {4: 124, 8: 0x81007, 12: height, 16: width, 20: width * height // 2, 28: 1, 76: 32, 80: 4, 108: 0x1000}
-    made = bytearray(b"DDS " + bytes(124))
-    for at, number in fields.items():
-        struct.pack_into("<I", made, at, number)
-    made[84:88] = form[:4].encode()
-    return bytes(made) + (struct.pack("<5I", int(form[5:]), 3, 0, 1, 0) if form[4:] else b"")
-
-
-def reading(file):
-    """The number to refuse a file with, or its width, its height, whether it is signed, and where its blocks start."""
-    word = lambda at: struct.unpack_from("<I", file, at)[0]
-    bad_side = lambda n: n == 0 or n > 1024 or n % 4 != 0
-    four = file[84:88]
-    extended = four == b"DX10"
-    start = 148 if extended else 128
-    if len(file) < start:
-        return 11
-    if file[:4] != b"DDS " or word(4) != 124:
-        return 12
-    if four not in (b"BC4U", b"BC4S", b"DX10") or extended and word(128) not in (80, 81):
-        return 13
-    if word(28) > 1 or word(24) > 1 or word(112) & 0xFC00 or extended and word(140) != 1:
-        return 14
-    height, width = word(12), word(16)
-    if bad_side(width) or bad_side(height):
-        return 1
-    if len(file) - start != width * height // 2:
-        return 15
-    return width, height, word(128) == 81 if extended else four == b"BC4S", start
 
 
 def titled(file, four):
@@ -507,11 +476,11 @@ def answered(name, file):
     out = fresh(path + ".ours.pgm")
     done = run(*picture, path, out)
     errors = done.stderr.decode().strip().replace(work + os.sep, "")
-    if isinstance(predicted, int):
+    if isinstance(predicted, Refused):
         number = re.search(r": refused (\d+)\b", errors)
-        agree = done.returncode == 1 and number and int(number[1]) == predicted
-        check(not agree, f"{name}: predicted refusal {predicted}; {errors or 'read'}")
-        return f"refusal {predicted}"
+        agree = done.returncode == 1 and number and int(number[1]) == predicted.number
+        check(not agree, f"{name}: predicted refusal {predicted.number}; {errors or 'read'}")
+        return f"refusal {predicted.number}"
     width, height, signed, start = predicted
     got_width, got_height, answer = of_pgm(out)
     form = "signed" if signed else "unsigned"

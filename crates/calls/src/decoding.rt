@@ -1,6 +1,6 @@
 // Decode: refusal 3. A line shows what the lent array holds after the call: what it held before, where the call refuses.
-use crate::given;
-use crate::show;
+use cases::given;
+use cases::show;
 use given::Sixteen;
 
 fn answer(encoded: &[u8], snorm: bool) {

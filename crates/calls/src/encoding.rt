@@ -1,8 +1,8 @@
 // Encode block: refusals 2 and 7.
-use crate::given;
-use crate::show;
 use bc4::Encoded;
 use bc4::Options;
+use cases::given;
+use cases::show;
 use given::NONE;
 use given::Sixteen;
 

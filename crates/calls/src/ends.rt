@@ -1,5 +1,5 @@
 // The endpoint bytes of two floats that are the same, an inner function: the run value of document 01, and those that are proved.
-use crate::show;
+use cases::show;
 use end_points::EndPoints;
 
 fn six(named: &[u8], x: f32, snorm: bool) {

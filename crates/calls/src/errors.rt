@@ -1,7 +1,7 @@
 // Block error: refusals 2, 3 and 7. An error is shown by its bits.
-use crate::given;
-use crate::show;
 use bc4::Scored;
+use cases::given;
+use cases::show;
 use given::NONE;
 use given::Sixteen;
 

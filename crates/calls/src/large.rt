@@ -1,17 +1,17 @@
 // The largest tile, 1,024 by 1,024: its samples take 4 MiB of the stack.
-use crate::given;
-use crate::show;
 use crate::tiles;
 use crate::views;
+use cases::given;
+use cases::show;
 use given::NONE;
 
 fn tiled(samples: &mut [f32; 1048576], nan: usize, out: &mut [u8; 524296]) {
     given::fill_samples(samples, nan, NONE);
     show::text(b"tile ");
-    tiles::size(1024, 1024);
+    show::size(1024, 1024);
     show::nans(nan, NONE);
     tiles::answer(samples, 1024, 1024, false, out);
-    tiles::after(out);
+    show::after(out);
 }
 
 fn past(out: &[u8], blocks: usize) {
@@ -24,7 +24,7 @@ fn past(out: &[u8], blocks: usize) {
 
 fn viewed(out: &[u8], column: usize, row: usize) {
     views::place(column, row);
-    tiles::size(1024, 1024);
+    show::size(1024, 1024);
     views::answer(given::first_bytes(out, 524288), 1024, 1024, column, row);
 }
 

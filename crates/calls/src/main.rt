@@ -4,10 +4,8 @@ mod decoding;
 mod encoding;
 mod ends;
 mod errors;
-mod given;
 mod large;
 mod resending;
-mod show;
 mod tiles;
 mod views;
 

@@ -1,9 +1,9 @@
 // Resend: refusals 2, 3, 5 and 7.
-use crate::given;
-use crate::show;
 use bc4::Kept;
 use bc4::Options;
 use bc4::Resent;
+use cases::given;
+use cases::show;
 use given::NONE;
 use given::Sixteen;
 

@@ -1,13 +1,11 @@
 // Encode tile: refusals 1, 2, 4 and 7. A line shows all of the lent output by its checksum, the bytes past what is written included.
 use crate::encoding;
-use crate::given;
-use crate::show;
 use bc4::Tiled;
+use cases::given;
+use cases::show;
+use given::FAR;
 use given::NONE;
 use given::Sixteen;
-
-// A multiple of 4 whose products with a side do not fit.
-pub const FAR: usize = 0xffff_ffff_ffff_fffc;
 
 fn shown(t: Tiled) {
     match t {
@@ -37,26 +35,13 @@ fn into(samples: &[f32], width: usize, height: usize, out: &mut [u8], room: usiz
     }
 }
 
-// All of the lent output, at the end of a line.
-pub fn after(out: &[u8]) {
-    show::text(b", out ");
-    show::checksum(out);
-    show::text(b"\n");
-}
-
-pub fn size(width: usize, height: usize) {
-    show::number(width);
-    show::text(b" by ");
-    show::number(height);
-}
-
 // With NaN at two indexes or none.
 fn tiled(width: usize, height: usize, count: usize, room: usize, first: usize, second: usize) {
     let mut s = [0.0f32; 4112];
     given::fill_samples(&mut s, first, second);
     let mut out = [0xa5u8; 2064];
     show::text(b"tile ");
-    size(width, height);
+    show::size(width, height);
     show::text(b", ");
     show::counts(count, b" into ", room);
     show::nans(first, second);
@@ -67,7 +52,7 @@ fn tiled(width: usize, height: usize, count: usize, room: usize, first: usize, s
         &mut out,
         room,
     );
-    after(&out);
+    show::after(&out);
 }
 
 fn widths() {

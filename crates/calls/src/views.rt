@@ -1,8 +1,7 @@
 // Block view: refusals 1, 3 and 6. A line shows the part that is handed back and, where that is empty, what `view_refusal` says.
-use crate::given;
-use crate::show;
-use crate::tiles;
-use tiles::FAR;
+use cases::given;
+use cases::show;
+use given::FAR;
 
 const FARTHEST: usize = 0xffff_ffff_ffff_ffff;
 
@@ -26,7 +25,7 @@ fn viewed(width: usize, height: usize, length: usize, column: usize, row: usize)
     let mut t = [0u8; 2056];
     given::fill_bytes(&mut t);
     place(column, row);
-    tiles::size(width, height);
+    show::size(width, height);
     show::text(b", ");
     show::byte_count(length);
     answer(given::first_bytes(&t, length), width, height, column, row);

@@ -5,6 +5,9 @@ use bc4::Quantization;
 // Past any sample that is given: no NaN.
 pub const NONE: usize = 0xffff_ffff;
 
+// A multiple of 4 whose products with a side do not fit.
+pub const FAR: usize = 0xffff_ffff_ffff_fffc;
+
 fn nan() -> f32 {
     0.0 / 0.0
 }

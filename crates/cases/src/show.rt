@@ -17,6 +17,12 @@ pub fn number(n: usize) {
     io::print_decimal(STDOUT_FILENO, n as u64);
 }
 
+pub fn size(width: usize, height: usize) {
+    number(width);
+    text(b" by ");
+    number(height);
+}
+
 pub fn sample_count(n: usize) {
     number(n);
     text(b" samples");
@@ -72,13 +78,31 @@ pub fn floats(x: &[f32; 16]) {
     }
 }
 
-// The document's number, and the index that comes with a NaN.
+// The documents' number, and what comes with it: the index of a NaN, or the field of a DDS file.
 pub fn refused(q: Refusal) {
     text(b"refused ");
     number(bc4::number(q) as usize);
     if let Refusal::SampleIsNan(i) = q {
         text(b" at ");
         number(i);
+    }
+    if let Refusal::DdsHeader(_) = q {
+        field(q);
+    }
+}
+
+fn field(q: Refusal) {
+    let mut detail = [0usize; 4];
+    refusal::detail(q, &mut detail);
+    text(b" field ");
+    number(detail[0]);
+}
+
+// The number of a refusal, or 0.
+pub fn checked_number(c: Checked) {
+    match c {
+        Checked::Refused(q) => number(bc4::number(q) as usize),
+        Checked::Passed => number(0),
     }
 }
 
@@ -136,4 +160,11 @@ pub fn checksum(s: &[u8]) {
         sum = (sum * 257 + wide(s[i]) + 1) % 4294967291;
     }
     io::print_hex(STDOUT_FILENO, sum, 8);
+}
+
+// All of the lent output, at the end of a line.
+pub fn after(out: &[u8]) {
+    text(b", out ");
+    checksum(out);
+    text(b"\n");
 }

@@ -1,10 +1,10 @@
--- `calls::given::fill_samples` is safe and ends.
+-- `cases::given::fill_samples` is safe and ends.
 use mathlib.Core.Path.{_≡_}
 use Prim.Native.Nat.{_-_, _≤_}
 use lib.ListN.{length}
 use borrow.Author.Needs.{needs}
-use Rattle.calls.proofs.given.fill_samples.Statement.{statement}
-use Rattle.calls.proofs.given.fill_samples.Tie as tie
+use Rattle.cases.proofs.given.fill_samples.Statement.{statement}
+use Rattle.cases.proofs.given.fill_samples.Tie as tie
 
 abbrev Inv-loop : tie.InvT-loop
 Inv-loop out₀ first second i₀ i-end out i = (length out ≡ length out₀) × (i ≤ length out₀)

@@ -1,9 +1,9 @@
--- `calls::show::checksum` is safe and ends.
+-- `cases::show::checksum` is safe and ends.
 use Prim.Native.Nat.{_-_, _≤_, _<_}
 use lib.ListN.{length}
 use borrow.Author.Needs.{needs}
-use Rattle.calls.proofs.show.checksum.Statement.{statement}
-use Rattle.calls.proofs.show.checksum.Tie as tie
+use Rattle.cases.proofs.show.checksum.Statement.{statement}
+use Rattle.cases.proofs.show.checksum.Tie as tie
 
 abbrev Inv-loop : tie.InvT-loop
 Inv-loop s sum₀ i₀ i-end sum i = (sum < 4294967296) × (i ≤ length s)

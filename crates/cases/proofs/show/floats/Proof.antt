@@ -1,8 +1,8 @@
--- `calls::show::floats` is safe and ends.
+-- `cases::show::floats` is safe and ends.
 use Prim.Native.Nat.{_-_, _≤_}
 use borrow.Author.Needs.{needs}
-use Rattle.calls.proofs.show.floats.Statement.{statement}
-use Rattle.calls.proofs.show.floats.Tie as tie
+use Rattle.cases.proofs.show.floats.Statement.{statement}
+use Rattle.cases.proofs.show.floats.Tie as tie
 
 abbrev Inv-loop : tie.InvT-loop
 Inv-loop x pixel₀ t3 pixel = pixel ≤ 16

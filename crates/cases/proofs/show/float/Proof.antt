@@ -1,9 +1,9 @@
--- `calls::show::float` is safe and ends: a float that equals itself is no NaN.
+-- `cases::show::float` is safe and ends: a float that equals itself is no NaN.
 use mathlib.Core.Path.{sym, _∙_}
 use Rattle.floats.proofs.Order.{ne-self}
 use borrow.Author.Needs.{needs}
-use Rattle.calls.proofs.show.float.Statement.{statement}
-use Rattle.calls.proofs.show.float.Tie as tie
+use Rattle.cases.proofs.show.float.Statement.{statement}
+use Rattle.cases.proofs.show.float.Tie as tie
 
 slice-aggregate-text : tie.Need-slice-aggregate-text
 slice-aggregate-text c = search needs

@@ -1,10 +1,10 @@
--- `calls::given::fill_bytes` is safe and ends.
+-- `cases::given::fill_bytes` is safe and ends.
 use mathlib.Core.Path.{_≡_}
 use Prim.Native.Nat.{_-_, _≤_}
 use lib.ListN.{length}
 use borrow.Author.Needs.{needs}
-use Rattle.calls.proofs.given.fill_bytes.Statement.{statement}
-use Rattle.calls.proofs.given.fill_bytes.Tie as tie
+use Rattle.cases.proofs.given.fill_bytes.Statement.{statement}
+use Rattle.cases.proofs.given.fill_bytes.Tie as tie
 
 abbrev Inv-loop : tie.InvT-loop
 Inv-loop bytes₀ k₀ k-end bytes k = (length bytes ≡ length bytes₀) × (k ≤ length bytes₀)

@@ -1,9 +1,9 @@
--- `calls::show::bytes` is safe and ends.
+-- `cases::show::bytes` is safe and ends.
 use Prim.Native.Nat.{_-_, _≤_}
 use lib.ListN.{length}
 use borrow.Author.Needs.{needs}
-use Rattle.calls.proofs.show.bytes.Statement.{statement}
-use Rattle.calls.proofs.show.bytes.Tie as tie
+use Rattle.cases.proofs.show.bytes.Statement.{statement}
+use Rattle.cases.proofs.show.bytes.Tie as tie
 
 abbrev Inv-loop : tie.InvT-loop
 Inv-loop s i₀ i-end i = i ≤ length s
