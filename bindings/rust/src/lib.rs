@@ -170,6 +170,7 @@ impl Options {
 
 /// What is wrong in the headers of a DDS file. A number stands there in four bytes, the lowest first.
 #[derive(Clone, Copy, Debug, PartialEq, Eq)]
+#[non_exhaustive]
 pub enum Field {
     /// At byte 16: 0, over 1,024 or no multiple of 4.
     Width,
@@ -246,6 +247,7 @@ impl fmt::Display for Field {
 
 /// Why a call gives no value.
 #[derive(Clone, Copy, Debug, PartialEq, Eq)]
+#[non_exhaustive]
 pub enum Refusal {
     /// 1: a side of the tile is 0, over 1,024 or no multiple of 4. Of a DDS file that is read, it is [`Refusal::DdsHeader`] with the side.
     Size,
