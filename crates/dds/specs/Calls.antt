@@ -25,9 +25,9 @@ ofWritten (Bytes n) = Passed
 ofWritten (NotWritten q) = Refused q
 
 -- the output after the call: the file, and then what was there before
-abbrev pub outAfter : Written → List ℕ → ℕ → ℕ → Bool → List ℕ → List ℕ
-outAfter (Bytes n) tile width height snorm before = fileOf tile width height snorm ++ drop n before
-outAfter (NotWritten q) tile width height snorm before = before
+abbrev pub fileAfter : Written → List ℕ → ℕ → ℕ → Bool → List ℕ → List ℕ
+fileAfter (Bytes n) tile width height snorm before = fileOf tile width height snorm ++ drop n before
+fileAfter (NotWritten q) tile width height snorm before = before
 
 -- ---- reading
 unfoldable pub pictureIn : List ℕ → Picture

@@ -35,46 +35,24 @@ fn four_characters(snorm: bool) -> u32
     if snorm { BC4S } else { BC4U }
 }
 
-// The 32 fields in order.
+// The 32 fields: field k stands at byte 4k.
 fn fields_of(width: usize, height: usize, snorm: bool) -> [u32; 32]
     requires { ⌜ badSize width height ≡ false ⌝ }
     ensures { λ r. ⌜ r ≡ headerFields width height snorm ⌝ }
 {
-    let linear = place::encoded_length(place::BC4_SIZE, width, height) as u32;
-    [
-        DDS,
-        SIZE,
-        0x81007,
-        height as u32,
-        width as u32,
-        linear,
-        0,
-        1,
-        0,
-        0,
-        0,
-        0,
-        0,
-        0,
-        0,
-        0,
-        0,
-        0,
-        0,
-        32,
-        4,
-        four_characters(snorm),
-        0,
-        0,
-        0,
-        0,
-        0,
-        0x1000,
-        0,
-        0,
-        0,
-        0,
-    ]
+    let mut all = [0u32; 32];
+    all[0] = DDS;
+    all[1] = SIZE;
+    all[2] = 0x81007;
+    all[3] = height as u32;
+    all[4] = width as u32;
+    all[5] = place::encoded_length(place::BC4_SIZE, width, height) as u32;
+    all[7] = 1;
+    all[19] = 32;
+    all[20] = 4;
+    all[21] = four_characters(snorm);
+    all[27] = 0x1000;
+    all
 }
 
 // The 128 bytes, at the start of `out`. Later bytes stay.

@@ -3,7 +3,7 @@ ghost use mathlib.Core.Path.{_≡_};
 ghost use lib.ListN.{length};
 ghost use Rattle.refusal.specs.Refusals.{firstOf};
 ghost use Rattle.dds.specs.Checks.{writeChecks, readChecks};
-ghost use Rattle.dds.specs.Calls.{writeAnswer, outAfter, pictureIn, readAnswer, bodyOf};
+ghost use Rattle.dds.specs.Calls.{writeAnswer, fileAfter, pictureIn, readAnswer, bodyOf};
 
 mod header;
 mod reading;
@@ -49,7 +49,7 @@ fn write_refusal(long: usize, width: usize, height: usize, room: usize) -> Check
 // The file of a tile, into the first 128 + width * height / 2 bytes of `out`. Later bytes stay.
 pub fn write(tile: &[u8], width: usize, height: usize, snorm: bool, out: &mut [u8]) -> Written
     ensures answer { λ r. ⌜ r ≡ writeAnswer (length (now (tile .entry))) width height (length (now (out .entry))) ⌝ }
-    ensures bytes { λ r. ⌜ now (out .exit) ≡ outAfter r (now (tile .entry)) width height snorm (now (out .entry)) ⌝ }
+    ensures bytes { λ r. ⌜ now (out .exit) ≡ fileAfter r (now (tile .entry)) width height snorm (now (out .entry)) ⌝ }
 {
     let checked = write_refusal(tile.len(), width, height, out.len());
     match checked {

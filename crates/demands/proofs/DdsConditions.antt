@@ -1,9 +1,9 @@
 -- Each check of a DDS file says what the document's condition says.
-use mathlib.Core.Path.{_≡_, refl, sym, ap, _∙_}
-use mathlib.Core.Bool.{Bool, true, false, not, cond, _&&_}
-use mathlib.Core.Logic.{_⊎_, inl, inr, dite}
+use mathlib.Core.Path.{_≡_, refl}
+use mathlib.Core.Bool.{Bool, true, false, cond, _&&_}
+use mathlib.Core.Logic.{inl, inr, dite}
 use mathlib.Core.List.{List, [], _∷_}
-use Prim.Native.Nat.{ℕ, zero, suc, _+_, _-_, _*_, _/_, _%_, _^_, _<_, _≤_}
+use Prim.Native.Nat.{ℕ, zero, suc, _+_, _-_, _*_, _/_, _%_, _^_, _<_}
 use native.Mathlib.Decide.{decLt}
 use native.Mathlib.Nat.{div-one, zero-div}
 use native.Mathlib.Numerals.{add-one}
@@ -11,8 +11,8 @@ use native.Mathlib.Omega.{arith}
 use lib.Dec.{eqb, ltb}
 use lib.ListN.{length}
 use lib.Pow.{shr-shr, mod-pow-add}
-use Rattle.index_list.proofs.Laws.{bits-low}
 use borrow.Author.Tests.{eqb-true, eq-eqb}
+use Rattle.index_list.proofs.Laws.{bits-low}
 use Rattle.floats.proofs.Tests.{clash}
 use Rattle.place.specs.Place.{bc4Size, encodedLength}
 use Rattle.dds.specs.Layout.{headerLength, extendedLength, bc4s, dx10, unsignedFormat, signedFormat, extended, formatIn, arraySizeIn, bodyAt, heightIn, widthIn}

@@ -1,30 +1,27 @@
 -- What is promised of DDS files.
 use mathlib.Core.Path.{_≡_, refl, sym, ap, _∙_}
 use mathlib.Core.Bool.{Bool, true, false, cond, _||_}
-use mathlib.Core.Logic.{_⊎_, inl, inr}
+use mathlib.Core.Logic.{inl, inr}
 use mathlib.Core.List.{List, [], _∷_, _++_}
-use Prim.Native.Nat.{ℕ, _+_, _*_, _/_, _%_, _^_, _<_, _≤_}
+use Prim.Native.Nat.{ℕ, _+_, _*_, _/_, _%_, _<_}
 use native.Mathlib.Nat.{mod-eq-of-lt}
 use native.Mathlib.Omega.{arith}
 use lib.Dec.{T, eqb, eqb→eq, lit<}
 use lib.ListN.{length, take, drop, getD, length-drop, getD-replicate}
 use lib.Seq.{take-at, drop-at, getD-take, getD-drop}
-use borrow.Author.Tests.{ltb-false, eqb-true}
+use borrow.Author.Tests.{eqb-true}
 use Rattle.floats.proofs.Tests.{clash}
 use Rattle.floats.proofs.Table.{all, at}
-use Rattle.fields.specs.Fields.{fieldAt}
 use Rattle.place.specs.Place.{badSize, bc4Size, encodedLength}
-use Rattle.place.proofs.Places.{size-good, size-small}
+use Rattle.place.proofs.Places.{size-small}
 use Rattle.refusal.specs.declared.Checked.{Checked}
 use Rattle.refusal.specs.declared.Checked.the-variants.{Passed, Refused}
 use Rattle.refusal.specs.Refusals.{firstOf, answered}
 use Rattle.refusal.proofs.Firsts.{first-clear, same-of}
-use Rattle.dds.specs.declared.Written.{Written}
 use Rattle.dds.specs.declared.Written.the-variants.{Bytes, Refused as NotWritten}
-use Rattle.dds.specs.declared.Found.{Found}
 use Rattle.dds.specs.declared.Found.the-variants.{File, Refused as NotFound}
 use Rattle.dds.specs.declared.Picture.{Picture}
-use Rattle.dds.specs.Layout.{headerLength, bc4u, bc4s, dx10, headerFields, headerField, fileOf, widthIn, heightIn, extended, formatIn, arraySizeIn, bodyAt}
+use Rattle.dds.specs.Layout.{headerLength, bc4s, dx10, headerFields, headerField, fileOf, widthIn, heightIn, extended, formatIn, arraySizeIn, bodyAt}
 use Rattle.dds.specs.Checks.{writeChecks, readChecks}
 use Rattle.dds.specs.Calls.{writeAnswer, pictureIn, readAnswer, bodyOf}
 use Rattle.dds.proofs.Files.{file-length, file-body, field-stands, field-reads}

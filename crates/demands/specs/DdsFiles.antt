@@ -9,7 +9,7 @@ use Rattle.dds.specs.declared.Written.the-variants.{Bytes}
 use Rattle.dds.specs.declared.Found.the-variants.{File}
 use Rattle.dds.specs.declared.Picture.{Picture}
 use Rattle.dds.specs.Layout.{ddsMagic, bc4u, bc4s, dx10}
-use Rattle.dds.specs.Calls.{writeAnswer, outAfter, readAnswer, bodyOf}
+use Rattle.dds.specs.Calls.{writeAnswer, fileAfter, readAnswer, bodyOf}
 use Rattle.fields.specs.Fields.{fieldOf}
 use Rattle.demands.specs.Conditions.{field, four}
 
@@ -58,11 +58,11 @@ pub record Agree (f g : List ℕ) : Type 0 where
 pub record DdsFiles : Type 0 where
   -- The first n bytes of the output are the file, as many as the answer says; later bytes stay.
   pub written : (tile : List ℕ) (width height : ℕ) (snorm : Bool) (before : List ℕ) (n : ℕ) → writeAnswer (length tile) width height (length before) ≡ Bytes n
-      → let after = outAfter (Bytes n) tile width height snorm before in
+      → let after = fileAfter (Bytes n) tile width height snorm before in
       Header (take n after) tile width height snorm × (drop n after ≡ drop n before)
   -- Reading them gives size, format and tile back.
   pub back : (tile : List ℕ) (width height : ℕ) (snorm : Bool) (before : List ℕ) (n : ℕ) → writeAnswer (length tile) width height (length before) ≡ Bytes n
-      → let file = take n (outAfter (Bytes n) tile width height snorm before) in
+      → let file = take n (fileAfter (Bytes n) tile width height snorm before) in
       (readAnswer file ≡ File (record { width = width; height = height; snorm = snorm; start = 128 })) × (bodyOf file ≡ tile)
   -- A read that is not refused says where the tile's bytes are: from there to the end, width * height / 2 of them.
   pub body : (file : List ℕ) (p : Picture) → readAnswer file ≡ File p → (bodyOf file ≡ drop (p .start) file) × (length (bodyOf file) ≡ p .width * p .height / 2)

@@ -20,7 +20,7 @@ use Rattle.bc4.specs.Word.{wordOf, encodeByWord, resendByWord, tileByWord}
 use Rattle.bc4.specs.Calls.{ofEncoded, ofScored, ofResent, ofTiled, encodeAnswer, samplesAfter, errorAnswer, resendAnswer, tileAnswer, outAfter, viewOf}
 use Rattle.dds.specs.Layout.{ddsMagic, bc4u, bc4s, dx10}
 use Rattle.dds.specs.Checks.{readChecks}
-use Rattle.dds.specs.Calls.{ofWritten, ofFound, writeAnswer, outAfter as fileAfter, readAnswer, bodyOf}
+use Rattle.dds.specs.Calls.{ofWritten, ofFound, writeAnswer, fileAfter, readAnswer, bodyOf}
 use Rattle.demands.specs.Exactly.{Condition, When, WhenUnequal, Exactly, InNumberOrder}
 use Rattle.demands.specs.Conditions.{BadSide, Missing, BadWord, WhenNan, field, four, WhenWrong, NoneOf, CubeFace, BadBody}
 

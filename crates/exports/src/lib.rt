@@ -6,7 +6,7 @@ ghost use lib.ListN.{length};
 ghost use Rattle.refusal.specs.Refusals.{numberOf, detailOf, firstOf, decodeChecks, viewChecks};
 ghost use Rattle.bc4.specs.Calls.{ofEncoded, ofScored, ofResent, ofTiled, samplesAfter, errorAnswer, outAfter};
 ghost use Rattle.bc4.specs.Word.{encodeByWord, resendByWord, tileByWord};
-ghost use Rattle.dds.specs.Calls.{writeAnswer, ofWritten, outAfter as fileAfter, readAnswer, ofFound};
+ghost use Rattle.dds.specs.Calls.{writeAnswer, ofWritten, fileAfter, readAnswer, ofFound};
 ghost use Rattle.exports.specs.Border.{wordOfNumber, numberIn, detailAfter, blockAfter, errorAfter, heldAfter, freshAfter, writtenAfter, offsetAfter};
 ghost use Rattle.exports.specs.DdsBorder.{fileWrittenAfter, widthAfter, heightAfter, snormAfter, startAfter};
 use bc4::Checked;

@@ -1,11 +1,11 @@
 -- A promise leaves no choice: two outcomes that a call's contract allows, of one call, are equal. `Post` of a call is its contract as the checker
 -- reads it, over the arguments, the result, and what lent memory holds at the end.
+use denote.Triple.Clauses.{AtExit}
 use mathlib.Core.Path.{_≡_}
 use mathlib.Core.List.{List}
 use Prim.Native.Nat.{ℕ}
-use borrow.Fn.Kinds.{PK, RK, Out, Dens, resT, endedOf}
 use contract.Lifetimes.{Lfts}
-use denote.Triple.Clauses.{AtExit}
+use borrow.Fn.Kinds.{PK, RK, Out, Dens, resT, endedOf}
 
 module _ (n : ℕ) (ps : List (PK n)) (r : RK n) (post : Out n ps r) where
   abbrev pub One-answer : Type 0

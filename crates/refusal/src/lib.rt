@@ -14,7 +14,7 @@ pub enum Refusal {
     SampleCount,
     // The encoded length is not 8, or not width * height / 2.
     EncodedLength,
-    // The output is shorter than width * height / 2.
+    // The output is shorter than width * height / 2, or than a file of so many bytes.
     OutputLength,
     // A resend with dither.
     DitheredResend,

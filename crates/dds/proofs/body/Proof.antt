@@ -1,12 +1,13 @@
-use Rattle.dds.specs.Layout.{Whole}
+-- `dds::body` meets its contract: the part from where the body starts, which stands within the file.
+use mathlib.Core.Path.{sym, _∙_}
+use Prim.Native.Nat.{_-_, _≤_}
 use native.Mathlib.Omega.{arith}
 use lib.ListN.{drop, length-drop}
 use lib.Seq.{take-all}
-use Prim.Native.Nat.{_-_, _≤_}
 use lib.ListN.{length}
-use mathlib.Core.Path.{sym, _∙_}
-use Rattle.dds.proofs.Headers.{read-whole, body-within}
 use borrow.Author.Needs.{needs}
+use Rattle.dds.specs.Layout.{Whole}
+use Rattle.dds.proofs.Headers.{read-whole, body-within}
 use Rattle.dds.proofs.body.Statement.{statement}
 use Rattle.dds.proofs.body.Tie as tie
 

@@ -1,6 +1,6 @@
 use mathlib.Core.Path.{sym, _∙_}
-use Rattle.dds.proofs.Headers.{read-whole}
 use borrow.Author.Needs.{needs}
+use Rattle.dds.proofs.Headers.{read-whole}
 use Rattle.dds.proofs.read.Statement.{statement}
 use Rattle.dds.proofs.read.Tie as tie
 

@@ -1,3 +1,4 @@
+-- `dds::write` meets its contract: the header, and then the tile after it.
 use denote.Ref.{now}
 use mathlib.Core.Path.{_≡_, refl, _∙_}
 use mathlib.Core.Bool.{false}
@@ -5,13 +6,12 @@ use Prim.Native.Nat.{ℕ, _+_, _≤_}
 use native.Mathlib.Omega.{arith}
 use lib.ListN.{length, length-take, length-drop}
 use borrow.Author.Tests.{ltb-false}
+use borrow.Author.Needs.{needs}
 use Rattle.place.specs.Place.{badSize, bc4Size, encodedLength}
-use Rattle.place.proofs.Places.{size-small}
 use Rattle.place.proofs.Joined.{all-copied}
 use Rattle.refusal.proofs.Firsts.{passed-clear, same-of}
 use Rattle.dds.specs.Layout.{headerLength, headerOf}
 use Rattle.dds.proofs.Files.{header-length, tile-put}
-use borrow.Author.Needs.{needs}
 use Rattle.dds.proofs.write.Statement.{statement}
 use Rattle.dds.proofs.write.Tie as tie
 

@@ -1,8 +1,8 @@
 use mathlib.Core.Path.{sym, _∙_}
-use Rattle.place.proofs.Places.{size-small}
 use borrow.Author.Tests.{eq-eqb, ne-eqb, lt-ltb, le-ltb}
-use Rattle.refusal.specs.Refusals.{firstOf}
 use borrow.Author.Needs.{needs}
+use Rattle.place.proofs.Places.{size-small}
+use Rattle.refusal.specs.Refusals.{firstOf}
 use Rattle.dds.proofs.write_refusal.Statement.{statement}
 use Rattle.dds.proofs.write_refusal.Tie as tie
 

@@ -1,6 +1,6 @@
 use native.Mathlib.Omega.{arith}
-use Rattle.fields.proofs.Laws.{four-bytes}
 use borrow.Author.Needs.{needs}
+use Rattle.fields.proofs.Laws.{four-bytes}
 use Rattle.fields.proofs.read_u32.Statement.{statement}
 use Rattle.fields.proofs.read_u32.Tie as tie
 

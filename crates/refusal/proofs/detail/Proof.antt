@@ -1,14 +1,14 @@
 -- `refusal::detail` meets its contract: no refusal but those of a NaN and of a DDS file's headers has something to say.
+use denote.Enum.Declared.{tagOf}
+use types.Run.{OneOf, miss}
 use mathlib.Core.Path.{_≡_, refl}
 use mathlib.Core.List.{List, [], _∷_}
 use Prim.Native.Nat.{ℕ}
-use types.Run.{OneOf, miss}
-use denote.Enum.Declared.{tagOf}
+use borrow.Author.Needs.{needs}
 use Rattle.refusal.specs.declared.Refusal.{Refusal}
 use Rattle.refusal.specs.declared.Refusal.the-variants.{Size, SampleCount, EncodedLength, OutputLength, DitheredResend, NoSuchBlock, SampleIsNan, WordMalformed, DdsHeader, DdsBody}
 use Rattle.refusal.proofs.Refusal.{the-type}
 use Rattle.refusal.specs.Refusals.{detailOf}
-use borrow.Author.Needs.{needs}
 use Rattle.refusal.proofs.detail.Statement.{statement}
 use Rattle.refusal.proofs.detail.Tie as tie
 

@@ -1,9 +1,10 @@
+-- `dds::header::put` meets its contract: field after field goes to its place.
 use mathlib.Core.Path.{_≡_, refl, ap, _∙_}
-use Rattle.fields.specs.Fields.{fieldOf}
-use borrow.Author.Needs.{needs}
 use Prim.Native.Nat.{_+_, _*_, _-_, _≤_}
 use native.Mathlib.Omega.{arith}
 use lib.ListN.{getD, length-take, length-drop}
+use borrow.Author.Needs.{needs}
+use Rattle.fields.specs.Fields.{fieldOf}
 use Rattle.place.proofs.Joined.{all-copied, Grown, grown-start, grown-step}
 use Rattle.dds.specs.Layout.{headerField, headerOf}
 use Rattle.dds.proofs.header.put.Statement.{statement}

@@ -1,6 +1,6 @@
 use mathlib.Core.Path.{sym, _∙_}
-use Rattle.dds.specs.Layout.{arraySizeIn}
 use borrow.Author.Needs.{needs}
+use Rattle.dds.specs.Layout.{arraySizeIn}
 use Rattle.dds.proofs.reading.array_size_in.Statement.{statement}
 use Rattle.dds.proofs.reading.array_size_in.Tie as tie
 

@@ -1,5 +1,5 @@
-use Rattle.dds.specs.Layout.{bodyAt}
 use borrow.Author.Needs.{needs}
+use Rattle.dds.specs.Layout.{bodyAt}
 use Rattle.dds.proofs.reading.body_at.Statement.{statement}
 use Rattle.dds.proofs.reading.body_at.Tie as tie
 

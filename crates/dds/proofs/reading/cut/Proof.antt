@@ -1,7 +1,8 @@
-use Rattle.dds.proofs.Headers.{whole}
+-- `dds::reading::cut` meets its contract: the headers are there once neither check of 11 applies.
 use borrow.Author.Tests.{lt-ltb, le-ltb}
-use Rattle.refusal.specs.Refusals.{firstOf}
 use borrow.Author.Needs.{needs}
+use Rattle.dds.proofs.Headers.{whole}
+use Rattle.refusal.specs.Refusals.{firstOf}
 use Rattle.dds.proofs.reading.cut.Statement.{statement}
 use Rattle.dds.proofs.reading.cut.Tie as tie
 

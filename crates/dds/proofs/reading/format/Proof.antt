@@ -1,5 +1,5 @@
-use Rattle.refusal.specs.Refusals.{firstOf}
 use borrow.Author.Needs.{needs}
+use Rattle.refusal.specs.Refusals.{firstOf}
 use Rattle.dds.proofs.reading.format.Statement.{statement}
 use Rattle.dds.proofs.reading.format.Tie as tie
 

@@ -1,7 +1,7 @@
 use mathlib.Core.Path.{sym, _∙_}
 use borrow.Author.Tests.{eq-eqb, ne-eqb}
-use Rattle.dds.specs.Layout.{formatIn}
 use borrow.Author.Needs.{needs}
+use Rattle.dds.specs.Layout.{formatIn}
 use Rattle.dds.proofs.reading.format_in.Statement.{statement}
 use Rattle.dds.proofs.reading.format_in.Tie as tie
 

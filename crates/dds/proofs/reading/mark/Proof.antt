@@ -1,6 +1,7 @@
+-- `dds::reading::mark` meets its contract, field by field.
 use borrow.Author.Tests.{eq-eqb, ne-eqb}
-use Rattle.refusal.specs.Refusals.{firstOf}
 use borrow.Author.Needs.{needs}
+use Rattle.refusal.specs.Refusals.{firstOf}
 use Rattle.dds.proofs.reading.mark.Statement.{statement}
 use Rattle.dds.proofs.reading.mark.Tie as tie
 

@@ -1,5 +1,5 @@
-use Rattle.dds.specs.Calls.{pictureIn}
 use borrow.Author.Needs.{needs}
+use Rattle.dds.specs.Calls.{pictureIn}
 use Rattle.dds.proofs.reading.picture.Statement.{statement}
 use Rattle.dds.proofs.reading.picture.Tie as tie
 

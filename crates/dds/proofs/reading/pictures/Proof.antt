@@ -1,6 +1,7 @@
+-- `dds::reading::pictures` meets its contract, field by field.
 use borrow.Author.Tests.{eq-eqb, ne-eqb, lt-ltb, le-ltb}
-use Rattle.refusal.specs.Refusals.{firstOf}
 use borrow.Author.Needs.{needs}
+use Rattle.refusal.specs.Refusals.{firstOf}
 use Rattle.dds.proofs.reading.pictures.Statement.{statement}
 use Rattle.dds.proofs.reading.pictures.Tie as tie
 

@@ -1,11 +1,12 @@
+-- `dds::reading::sides` meets its contract: two good sides make a size whose bytes fit a word.
+use mathlib.Core.Path.{sym, _∙_}
+use Prim.Native.Nat.{_*_, _≤_}
+use borrow.Author.Tests.{eq-eqb, ne-eqb}
+use borrow.Author.Needs.{needs}
 use Rattle.refusal.specs.Refusals.{firstOf}
 use Rattle.dds.proofs.Headers.{body-near}
-use Prim.Native.Nat.{_*_, _≤_}
 use Rattle.place.specs.Place.{longestSide}
-use mathlib.Core.Path.{sym, _∙_}
-use borrow.Author.Tests.{eq-eqb, ne-eqb}
 use Rattle.place.proofs.Places.{sides-good, size-small}
-use borrow.Author.Needs.{needs}
 use Rattle.dds.proofs.reading.sides.Statement.{statement}
 use Rattle.dds.proofs.reading.sides.Tie as tie
 
