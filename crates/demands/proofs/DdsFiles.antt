@@ -1,7 +1,7 @@
 -- What is promised of DDS files.
 use mathlib.Core.Path.{_≡_, refl, sym, ap, _∙_}
 use mathlib.Core.Bool.{Bool, true, false, cond, _||_}
-use mathlib.Core.Logic.{inl, inr}
+use mathlib.Core.Logic.{_⊎_, inl, inr}
 use mathlib.Core.List.{List, [], _∷_, _++_}
 use Prim.Native.Nat.{ℕ, _+_, _*_, _/_, _%_, _<_}
 use native.Mathlib.Nat.{mod-eq-of-lt}
@@ -9,7 +9,7 @@ use native.Mathlib.Omega.{arith}
 use lib.Dec.{T, eqb, eqb→eq, lit<}
 use lib.ListN.{length, take, drop, getD, length-drop, getD-replicate}
 use lib.Seq.{take-at, drop-at, getD-take, getD-drop}
-use borrow.Author.Tests.{eqb-true}
+use borrow.Author.Tests.{eqb-true, eq-eqb, ne-eqb}
 use Rattle.floats.proofs.Tests.{clash}
 use Rattle.floats.proofs.Table.{all, at}
 use Rattle.place.specs.Place.{badSize, bc4Size, encodedLength}
@@ -21,13 +21,14 @@ use Rattle.refusal.proofs.Firsts.{first-clear, same-of}
 use Rattle.dds.specs.declared.Written.the-variants.{Bytes, Refused as NotWritten}
 use Rattle.dds.specs.declared.Found.the-variants.{File, Refused as NotFound}
 use Rattle.dds.specs.declared.Picture.{Picture}
-use Rattle.dds.specs.Layout.{headerLength, bc4s, dx10, headerFields, headerField, fileOf, widthIn, heightIn, extended, formatIn, arraySizeIn, bodyAt}
+use Rattle.dds.specs.Layout.{headerLength, bc4s, dx10, unsignedFormat, signedFormat, headerFields, headerField, fileOf, widthIn, heightIn, extended, formatIn, arraySizeIn, bodyAt}
 use Rattle.dds.specs.Checks.{writeChecks, readChecks}
 use Rattle.dds.specs.Calls.{writeAnswer, pictureIn, readAnswer, bodyOf}
 use Rattle.dds.proofs.Files.{file-length, file-body, field-stands, field-reads}
 use Rattle.dds.proofs.ReadBack.{width-back, height-back, read-back}
+use Rattle.demands.specs.Exactly.{Iff}
 use Rattle.demands.specs.Conditions.{field, four}
-use Rattle.demands.specs.DdsFiles.{setFields, Elsewhere, Header, Agree, DdsFiles}
+use Rattle.demands.specs.DdsFiles.{setFields, Elsewhere, Header, Agree, Says, DdsFiles}
 use Rattle.demands.proofs.Conditions.{half}
 
 -- ---- a tile that is accepted
@@ -146,18 +147,43 @@ module _ (f g : List ℕ) (a : Agree f g) where
   same-answer : readAnswer f ≡ readAnswer g
   same-answer = rw (same-checks, same-picture)
 
--- ---- where the body is
-body-of : (file : List ℕ) (p : Picture) → readAnswer file ≡ File p → (bodyOf file ≡ drop (p .start) file) × (length (bodyOf file) ≡ p .width * p .height / 2)
-unfolding pictureIn
-body-of file p e = go (firstOf (readChecks file)) refl e
-  where
-    go : (c : Checked) → firstOf (readChecks file) ≡ c → answered NotFound (File (pictureIn file)) c ≡ File p → (bodyOf file ≡ drop (p .start) file) × (length (bodyOf file) ≡ p .width * p .height / 2)
-    go Passed passed e =
-        let same : pictureIn file ≡ p = cc in
-        let clear = first-clear (readChecks file) passed in
-        let long : length file ≡ bodyAt file + encodedLength bc4Size (widthIn file) (heightIn file) = same-of _ _ (clear .1 .1 .1 .1 .1 .1 .1 .1 .1 .1 .1 .1 .0) in
-        rw (← same, passed) (refl, simp length-drop (omega (arith, half (widthIn file) (heightIn file))))
-    go (Refused q) passed e = absurd (let z : _≡_ {A = ℕ} 0 1 = cc in omega arith)
+-- ---- what a file is read as
+module _ (file : List ℕ) where
+  signed-iff : Iff (eqb (formatIn file) signedFormat ≡ true) ((four file ≡ bc4s) ⊎ ((four file ≡ dx10) × (field file 128 ≡ 81)))
+  unfolding formatIn
+  signed-iff = go (extended file) refl (eqb (four file) bc4s) refl
+    where
+      go : (t : Bool) → extended file ≡ t → (s : Bool) → eqb (four file) bc4s ≡ s
+          → Iff (eqb (cond t (field file 128) (cond s signedFormat unsignedFormat)) signedFormat ≡ true) ((four file ≡ bc4s) ⊎ ((four file ≡ dx10) × (field file 128 ≡ 81)))
+      go true e s f =
+          let x : four file ≡ dx10 = eqb-true (four file) dx10 e in
+          (λ h. inr (x, eqb-true (field file 128) 81 h), λ h. elim h [ inl y ↦ absurd (omega (arith, x, y)) | inr z ↦ eq-eqb (field file 128) 81 (z .1) ])
+      go false e true f = (λ h. inl (eqb-true (four file) bc4s f), λ h. refl)
+      go false e false f = (λ h. clash h refl, λ h. elim h [ inl y ↦ clash (eq-eqb (four file) bc4s y) f | inr z ↦ clash (eq-eqb (four file) dx10 (z .0)) e ])
+
+  starts : (four file ≡ dx10 → bodyAt file ≡ 148) × ((four file ≡ dx10 → ⊥) → bodyAt file ≡ 128)
+  unfolding bodyAt
+  starts = (λ e. rw (eq-eqb (four file) dx10 e), λ n. rw (ne-eqb (four file) dx10 n))
+
+  says : (p : Picture) → readAnswer file ≡ File p → Says file p
+  unfolding pictureIn
+  says p e = go (firstOf (readChecks file)) refl e
+    where
+      go : (c : Checked) → firstOf (readChecks file) ≡ c → answered NotFound (File (pictureIn file)) c ≡ File p → Says file p
+      go Passed passed e =
+          let same : pictureIn file ≡ p = cc in
+          let clear = first-clear (readChecks file) passed in
+          let long : length file ≡ bodyAt file + encodedLength bc4Size (widthIn file) (heightIn file) = same-of _ _ (clear .1 .1 .1 .1 .1 .1 .1 .1 .1 .1 .1 .1 .0) in
+          rw (← same)
+          (record {
+            width = refl;
+            height = refl;
+            signed = signed-iff;
+            start = starts;
+            body = rw passed;
+            body-length = rw passed (simp length-drop (omega (arith, half (widthIn file) (heightIn file))));
+          })
+      go (Refused q) passed e = absurd (let z : _≡_ {A = ℕ} 0 1 = cc in omega arith)
 
 -- what was written is the file
 module _ (tile : List ℕ) (width height : ℕ) (snorm : Bool) (before : List ℕ) (n : ℕ) (ok : Accepted tile width height n) where
@@ -175,7 +201,7 @@ dds-files = record {
   back = λ tile width height snorm before n e.
       let ok = accepted tile width height (length before) n e in
       rw (file-written tile width height snorm before n ok) (read-back tile width height snorm (ok .good) (ok .long));
-  body = body-of;
+  says = says;
   alone = same-answer;
   spelled = (refl, refl, refl, refl);
 }

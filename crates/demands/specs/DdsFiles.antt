@@ -1,6 +1,6 @@
 -- Document 02, 1/12: what is promised of DDS files besides their refusals, which are in `Demand1`: what is written, what it reads back as, and what a read looks at.
 use mathlib.Core.Path.{_≡_}
-use mathlib.Core.Bool.{Bool, cond}
+use mathlib.Core.Bool.{Bool, true, cond}
 use mathlib.Core.Logic.{_⊎_}
 use mathlib.Core.List.{List, [], _∷_}
 use Prim.Native.Nat.{ℕ, _+_, _*_, _/_, _<_, _≤_}
@@ -11,6 +11,7 @@ use Rattle.dds.specs.declared.Picture.{Picture}
 use Rattle.dds.specs.Layout.{ddsMagic, bc4u, bc4s, dx10}
 use Rattle.dds.specs.Calls.{writeAnswer, fileAfter, readAnswer, bodyOf}
 use Rattle.fields.specs.Fields.{fieldOf}
+use Rattle.demands.specs.Exactly.{Iff}
 use Rattle.demands.specs.Conditions.{field, four}
 
 -- ---- what is written
@@ -55,6 +56,15 @@ pub record Agree (f g : List ℕ) : Type 0 where
   pub caps2 : field f 112 ≡ field g 112
   pub extension : four f ≡ dx10 → (field f 128 ≡ field g 128) × (field f 140 ≡ field g 140)
 
+-- ---- what a read answers of a file that it does not refuse: size, format, and where the tile's bytes are, from there to the end
+pub record Says (file : List ℕ) (p : Picture) : Type 0 where
+  pub width : p .width ≡ field file 16
+  pub height : p .height ≡ field file 12
+  pub signed : Iff (p .snorm ≡ true) ((four file ≡ bc4s) ⊎ ((four file ≡ dx10) × (field file 128 ≡ 81)))
+  pub start : (four file ≡ dx10 → p .start ≡ 148) × ((four file ≡ dx10 → ⊥) → p .start ≡ 128)
+  pub body : bodyOf file ≡ drop (p .start) file
+  pub body-length : length (bodyOf file) ≡ p .width * p .height / 2
+
 pub record DdsFiles : Type 0 where
   -- The first n bytes of the output are the file, as many as the answer says; later bytes stay.
   pub written : (tile : List ℕ) (width height : ℕ) (snorm : Bool) (before : List ℕ) (n : ℕ) → writeAnswer (length tile) width height (length before) ≡ Bytes n
@@ -64,8 +74,8 @@ pub record DdsFiles : Type 0 where
   pub back : (tile : List ℕ) (width height : ℕ) (snorm : Bool) (before : List ℕ) (n : ℕ) → writeAnswer (length tile) width height (length before) ≡ Bytes n
       → let file = take n (fileAfter (Bytes n) tile width height snorm before) in
       (readAnswer file ≡ File (record { width = width; height = height; snorm = snorm; start = 128 })) × (bodyOf file ≡ tile)
-  -- A read that is not refused says where the tile's bytes are: from there to the end, width * height / 2 of them.
-  pub body : (file : List ℕ) (p : Picture) → readAnswer file ≡ File p → (bodyOf file ≡ drop (p .start) file) × (length (bodyOf file) ≡ p .width * p .height / 2)
+  -- What any other file is read as.
+  pub says : (file : List ℕ) (p : Picture) → readAnswer file ≡ File p → Says file p
   -- Nothing else of a file matters: two that agree get the same answer.
   pub alone : (f g : List ℕ) → Agree f g → readAnswer f ≡ readAnswer g
   -- the numbers that the conditions of a read name, as the characters are spelled: `DDS `, `BC4U`, `BC4S`, `DX10`
