@@ -3,7 +3,7 @@
 
 Nothing of the library is asked. Refusals, decoding and block errors are worked out here: a step in f32 is the exact fraction rounded once.
 Encoded bytes come from ORACLE, the Rust text's program, which is given one record of 68 bytes for each block. The order of the cases, and
-the samples and bytes that they give, are those of crates/calls/src."""
+the samples and bytes that they give, are those of crates/calls/src and crates/cases/src."""
 import struct
 import subprocess
 import sys

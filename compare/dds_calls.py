@@ -1,7 +1,7 @@
 #!/usr/bin/env python3
 """dds_calls.py OUT: the lines that the program `dds_calls` has to print, worked out from document 02, 1/12, and written to OUT.
 
-Nothing of the library is asked. The order of the cases, and the bytes that they give, are those of crates/dds_calls/src."""
+Nothing of the library is asked. The order of the cases, and the bytes that they give, are those of crates/dds_calls/src and crates/cases/src."""
 import sys
 
 from dds_rules import Refused, bad_side, header, reading
