@@ -1,4 +1,4 @@
-// What reading a DDS file looks at, number by number: each function makes the checks of one number, and asks the next.
+// What reading a DDS file looks at, number by number: each function makes the checks of one number and asks the next; the last makes those of 1 and 15.
 ghost use mathlib.Core.Path.{_≡_};
 ghost use mathlib.Core.List.{_++_};
 ghost use Prim.Native.Nat.{_≤_};
