@@ -1,5 +1,5 @@
 #!/usr/bin/env python3
-"""calls.py ORACLE OUT: the lines that the program `calls` has to print, worked out from document 01 and written to OUT.
+"""calls.py ORACLE OUT: the lines that the program `calls` has to print, worked out from document 01 and document 02, 2/12, and written to OUT.
 
 Nothing of the library is asked. Refusals, decoding and block errors are worked out here: a step in f32 is the exact fraction rounded once.
 Encoded bytes come from ORACLE, the Rust text's program, which is given one record of 68 bytes for each block. The order of the cases, and
@@ -9,9 +9,9 @@ import subprocess
 import sys
 from fractions import Fraction
 
+from refusals import FAR, FARTHEST, SIZES, first, size_checks
+
 INF = float("inf")
-FAR = 2**64 - 4
-FARTHEST = 2**64 - 1
 oracle = sys.argv[1]
 lines = []
 
@@ -92,24 +92,14 @@ def block_error(samples, block, snorm):
     return total
 
 
-# ---- the calls: a refusal is its text
+# ---- the calls
 
 
-def first_nan(samples):
-    return next((i for i, x in enumerate(samples) if x != x), None)
-
-
-def bad_side(n):
-    return n == 0 or n > 1024 or n % 4 != 0
-
-
-def lowest(*checks):
-    """Of (number, whether it applies), the lowest number that applies."""
-    return min((number for number, applies in checks if applies), default=None)
-
-
-def refused(number, samples=()):
-    return f"refused {number}" + (f" at {first_nan(samples)}" if number == 7 else "")
+def nan_check(samples, width=None):
+    """With a tile's width the row and the column too."""
+    at = next((i for i, x in enumerate(samples) if x != x), len(samples))
+    place = f", row {at // width}, column {at % width}" if width else ""
+    return 7, f" at {at}{place}", at < len(samples)
 
 
 def encoded(blocks, dither=False, snorm=False, search=False):
@@ -122,27 +112,25 @@ def encoded(blocks, dither=False, snorm=False, search=False):
 
 
 def encode(samples, **options):
-    number = lowest((2, len(samples) != 16), (7, first_nan(samples) is not None))
-    return refused(number, samples) if number else encoded([samples], **options)[0].hex()
+    refused = first((2, len(samples) != 16), nan_check(samples))
+    return refused or encoded([samples], **options)[0].hex()
 
 
 def decode(block, snorm, before):
-    number = lowest((3, len(block) != 8))
-    text = f" {refused(number)}," if number else ""
-    return text + "".join(" " + bits(x) for x in (before if number else decoded(block, snorm)))
+    refused = first((3, len(block) != 8))
+    text = f" {refused}," if refused else ""
+    return text + "".join(" " + bits(x) for x in (before if refused else decoded(block, snorm)))
 
 
 def error(samples, block, snorm):
-    number = lowest((2, len(samples) != 16), (3, len(block) != 8), (7, first_nan(samples) is not None))
-    return refused(number, samples) if number else bits(block_error(samples, block, snorm))
+    refused = first((2, len(samples) != 16), (3, len(block) != 8), nan_check(samples))
+    return refused or bits(block_error(samples, block, snorm))
 
 
 def resend(samples, held, dither, snorm):
-    number = lowest(
-        (2, len(samples) != 16), (3, len(held) != 8), (5, dither), (7, first_nan(samples) is not None)
-    )
-    if number:
-        return refused(number, samples)
+    refused = first((2, len(samples) != 16), (3, len(held) != 8), (5, dither), nan_check(samples))
+    if refused:
+        return refused
     fresh = encoded([samples], snorm=snorm)[0]
     if block_error(samples, fresh, snorm) < block_error(samples, held, snorm):
         return f"fresh {fresh.hex()}"
@@ -151,14 +139,14 @@ def resend(samples, held, dither, snorm):
 
 def tile(samples, width, height, out, room, snorm=False):
     """The answer, and `out` after the call, which is lent its first `room` bytes."""
-    number = lowest(
-        (1, bad_side(width) or bad_side(height)),
+    refused = first(
+        *size_checks(width, height),
         (2, len(samples) != width * height),
         (4, room < width * height // 2),
-        (7, first_nan(samples) is not None),
+        nan_check(samples, width),
     )
-    if number:
-        return refused(number, samples), out
+    if refused:
+        return refused, out
     blocks = [
         [samples[(4 * row + y) * width + 4 * column + x] for y in range(4) for x in range(4)]
         for row in range(height // 4)
@@ -169,13 +157,13 @@ def tile(samples, width, height, out, room, snorm=False):
 
 
 def view(tile, width, height, column, row):
-    number = lowest(
-        (1, bad_side(width) or bad_side(height)),
+    refused = first(
+        *size_checks(width, height),
         (3, len(tile) != width * height // 2),
         (6, column >= width // 4 or row >= height // 4),
     )
-    if number:
-        return f"{refused(number)}, []"
+    if refused:
+        return f"{refused}, []"
     at = 8 * (row * (width // 4) + column)
     return f"[{tile[at:at + 8].hex()}]"
 
@@ -356,12 +344,13 @@ def resend_lines():
     valued("-inf and inf", halves(-INF, INF), bytes.fromhex("807fb66ddbffffff"), True)
 
 
-def tile_lines():
-    def tiled(width, height, count, room, *nans):
-        answer, out = tile(samples(count, *nans), width, height, b"\xa5" * 2064, room)
-        given = f"tile {width} by {height}, {count} samples into {room} bytes{named(*nans)}"
-        lines.append(f"{given}: {answer}, out {checksum(out)}")
+def tiled(width, height, count, room, *nans):
+    answer, out = tile(samples(count, *nans), width, height, b"\xa5" * 2064, room)
+    given = f"tile {width} by {height}, {count} samples into {room} bytes{named(*nans)}"
+    lines.append(f"{given}: {answer}, out {checksum(out)}")
 
+
+def tile_lines():
     tiled(0, 4, 0, 0)
     tiled(4, 4, 16, 8)
     tiled(6, 4, 24, 12)
@@ -380,6 +369,7 @@ def tile_lines():
         tiled(8, 12, 96, room)
     for nans in [(0,), (95,), (40, 17), (96,)]:
         tiled(8, 12, 96, 48, *nans)
+    tiled(8, 4, 32, 16, 13)
     tiled(1024, 4, 4096, 2048, 4095)
     tiled(6, 12, 96, 48)
     tiled(6, 12, 72, 35)
@@ -410,11 +400,12 @@ def end_lines():
         lines.append(f"six-value ends of {x} and {x}{format_of(snorm)}: {bytes([c0, c1]).hex()}")
 
 
-def view_lines():
-    def viewed(width, height, length, column, row):
-        answer = view(given_bytes(length), width, height, column, row)
-        lines.append(f"view column {column} row {row} of {width} by {height}, {length} bytes: {answer}")
+def viewed(width, height, length, column, row):
+    answer = view(given_bytes(length), width, height, column, row)
+    lines.append(f"view column {column} row {row} of {width} by {height}, {length} bytes: {answer}")
 
+
+def view_lines():
     viewed(0, 4, 0, 0, 0)
     viewed(4, 4, 8, 0, 0)
     viewed(6, 4, 12, 0, 0)
@@ -442,6 +433,12 @@ def view_lines():
     viewed(8, 6, 25, 0, 3)
 
 
+def size_lines():
+    for width, height in SIZES:
+        tiled(width, height, 16, 0, 3)
+        viewed(width, height, 8, FARTHEST, FARTHEST)
+
+
 def large_lines():
     n, out = 1024 * 1024, b"\xa5" * 524296
     for nans in [(n - 1,), ()]:
@@ -458,6 +455,7 @@ error_lines()
 resend_lines()
 tile_lines()
 view_lines()
+size_lines()
 large_lines()
 end_lines()
 with open(sys.argv[2], "w") as handle:

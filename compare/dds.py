@@ -17,7 +17,8 @@ from fractions import Fraction
 from functools import lru_cache
 from math import ceil, floor
 
-from dds_rules import Refused, header, reading
+from dds_rules import header, reading
+from refusals import Refused
 
 FORMATS = ["BC4U", "BC4S", "DX10 80", "DX10 81"]
 checks = differences = 0

@@ -1,12 +1,12 @@
 #!/usr/bin/env python3
-"""dds_calls.py OUT: the lines that the program `dds_calls` has to print, worked out from document 02, 1/12, and written to OUT.
+"""dds_calls.py OUT: the lines that the program `dds_calls` has to print, worked out from document 02, 1/12 and 2/12, and written to OUT.
 
 Nothing of the library is asked. The order of the cases, and the bytes that they give, are those of crates/dds_calls/src and crates/cases/src."""
 import sys
 
-from dds_rules import Refused, bad_side, header, reading
+from dds_rules import header, reading
+from refusals import FAR, SIZES, Refused, first, size_checks
 
-FAR = 2**64 - 4
 lines = []
 
 
@@ -31,23 +31,22 @@ def format_of(signed):
 def write(tile, width, height, signed, out, room):
     """The line of a write into the first `room` bytes of `out`, and `out` after it."""
     size = width * height // 2
-    checks = [(1, bad_side(width) or bad_side(height)), (3, len(tile) != size), (4, room < 128 + size)]
-    number = next((number for number, applies in checks if applies), None)
-    file = header(width, height, "BC4S" if signed else "BC4U") + tile if not number else b""
-    answer = f"refused {number}" if number else f"written {len(file)}"
+    refused = first(*size_checks(width, height), (3, len(tile) != size), (4, room < 128 + size))
+    file = header(width, height, "BC4S" if signed else "BC4U") + tile if not refused else b""
+    answer = refused or f"written {len(file)}"
     line = f"write {width} by {height}{format_of(signed)}, {len(tile)} bytes into {room}: {answer}"
     return line, file + out[len(file) :]
+
+
+def wrote(width, height, length, room):
+    line, out = write(given_bytes(length), width, height, False, b"\xa5" * 2184, room)
+    lines.append(f"{line}, out {checksum(out)}")
 
 
 def write_lines():
     for signed in [False, True]:
         line, out = write(given_bytes(16), 8, 4, signed, b"\xa5" * 145, 145)
         lines.append(f"{line} {out.hex()}")
-
-    def wrote(width, height, length, room):
-        line, out = write(given_bytes(length), width, height, False, b"\xa5" * 2184, room)
-        lines.append(f"{line}, out {checksum(out)}")
-
     wrote(0, 4, 0, 128)
     wrote(4, 4, 8, 136)
     wrote(6, 4, 12, 140)
@@ -89,7 +88,7 @@ def made(extension):
 def answer(file):
     found = reading(file)
     if isinstance(found, Refused):
-        return f"refused {found.number}" + (f" field {found.field}" if found.field else "")
+        return str(found)
     return f"{found.width} by {found.height}{format_of(found.signed)}, from {found.start}"
 
 
@@ -102,16 +101,17 @@ def name_of(extension, length):
     return f"read {length} bytes" + " with DX10" * extension
 
 
-def read_lines():
-    def read(extension, length, *changes):
-        file = made(extension)
-        for at, x in changes:
-            file = changed(file, at, x)
-        file = file[:length]
-        refused = f" {answer(file)}," if isinstance(reading(file), Refused) else ""
-        how = "".join(f", {at} is {x}" for at, x in changes)
-        lines.append(f"{name_of(extension, length)}{how}: {answer(file)},{refused} [{body(file).hex()}]")
+def read(extension, length, *changes):
+    file = made(extension)
+    for at, x in changes:
+        file = changed(file, at, x)
+    file = file[:length]
+    refused = f" {answer(file)}," if isinstance(reading(file), Refused) else ""
+    how = "".join(f", {at} is {x}" for at, x in changes)
+    lines.append(f"{name_of(extension, length)}{how}: {answer(file)},{refused} [{body(file).hex()}]")
 
+
+def read_lines():
     def field(at, *values):
         for x in values:
             read(False, 144, (at, x))
@@ -148,7 +148,8 @@ def read_lines():
     both((28, 2), (24, 2))
     both((24, 2), (112, 0x400))
     both((112, 0x400), (140, 0))
-    both((140, 0), (16, 6))
+    for width in [0, 1028, 6]:
+        both((140, 0), (16, width))
     both((16, 6), (12, 6))
     read(True, 163, (12, 6))
     read(False, 144, (128, 79), (140, 0))
@@ -157,6 +158,12 @@ def read_lines():
         others = [file[:k] + bytes([255 - file[k]]) + file[k + 1 :] for k in range(length)]
         numbers = [reading(other).number if isinstance(reading(other), Refused) else 0 for other in others]
         lines.append(f"{name_of(extension, length)}, each byte changed alone: " + " ".join(map(str, numbers)))
+
+
+def size_lines():
+    for width, height in SIZES:
+        wrote(width, height, 8, 0)
+        read(False, 144, (16, width % 2**32), (12, height % 2**32))
 
 
 def large_lines():
@@ -169,6 +176,7 @@ def large_lines():
 
 write_lines()
 read_lines()
+size_lines()
 large_lines()
 with open(sys.argv[1], "w") as handle:
     handle.write("".join(line + "\n" for line in lines))

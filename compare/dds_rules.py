@@ -2,9 +2,10 @@
 import struct
 from collections import namedtuple
 
-# the fields that a refusal names, from 1 on in the order of include/bc4.h
-FIELDS = "width height header extension magic header_size four_characters format mip_count depth cube_faces array_size".split()
-Refused = namedtuple("Refused", "number field")
+from refusals import first, size_checks
+
+# the fields that a refusal names, from 3 on in the order of include/bc4.h
+FIELDS = "header extension magic header_size four_characters format mip_count depth cube_faces array_size".split()
 Read = namedtuple("Read", "width height signed start")
 
 
@@ -18,12 +19,8 @@ def header(width, height, form):
     return bytes(made) + (struct.pack("<5I", int(form[5:]), 3, 0, 1, 0) if form[4:] else b"")
 
 
-def bad_side(n):
-    return n == 0 or n > 1024 or n % 4 != 0
-
-
 def reading(file):
-    """What a read answers: of the table's rows, in order, the first that applies, with its field; else size, format and where the blocks start."""
+    """What a read answers: of the table's rows, the size's checks and 15 the first that applies; else size, format and where the blocks start."""
     word = lambda at: int.from_bytes(file[at : at + 4], "little")
     four = file[84:88]
     extended = four == b"DX10"
@@ -40,11 +37,7 @@ def reading(file):
         (14, "depth", word(24) > 1),
         (14, "cube_faces", word(112) & 0xFC00 != 0),
         (14, "array_size", extended and word(140) != 1),
-        (1, "width", bad_side(width)),
-        (1, "height", bad_side(height)),
-        (15, None, len(file) - start != width * height // 2),
     ]
-    for number, field, applies in table:
-        if applies:
-            return Refused(number, field and FIELDS.index(field) + 1)
-    return Read(width, height, word(128) == 81 if extended else four == b"BC4S", start)
+    fields = [(number, f" field {FIELDS.index(field) + 3}", applies) for number, field, applies in table]
+    refused = first(*fields, *size_checks(width, height), (15, len(file) - start != width * height // 2))
+    return refused or Read(width, height, word(128) == 81 if extended else four == b"BC4S", start)

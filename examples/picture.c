@@ -23,8 +23,6 @@ static uint8_t pgm[sizeof "P5\n1024 1024\n255\n" + MOST_SIDE * MOST_SIDE];
 static const char *words_of(uint32_t refused, size_t field)
 {
     switch (field) {
-    case BC4_FIELD_WIDTH: return "the width is 0, over 1024 or no multiple of 4";
-    case BC4_FIELD_HEIGHT: return "the height is 0, over 1024 or no multiple of 4";
     case BC4_FIELD_HEADER: return "the file is shorter than its header of 128 bytes";
     case BC4_FIELD_EXTENSION: return "the file is shorter than its header with DX10, 148 bytes";
     case BC4_FIELD_MAGIC: return "the file begins neither with P5, as a PGM, nor with DDS and a blank";
@@ -36,16 +34,22 @@ static const char *words_of(uint32_t refused, size_t field)
     case BC4_FIELD_CUBE_FACES: return "the file has faces of a cube";
     case BC4_FIELD_ARRAY_SIZE: return "the array size is not 1";
     }
-    switch (refused) {
-    case BC4_SIZE: return "the width or the height is 0, over 1024 or no multiple of 4";
-    case BC4_DDS_BODY: return "the bytes after the header are not exactly width * height / 2";
-    default: return "bc4.h says what this number means"; /* this program's calls leave no other way to be refused */
-    }
+    if (refused == BC4_DDS_BODY) return "the bytes after the header are not exactly width * height / 2";
+    return "bc4.h says what this number means"; /* this program's calls leave no other way to be refused */
 }
 
-static int refuse(const char *name, uint32_t refused, const bc4_detail *detail)
+/* Where a side is wrong, the line has its value. */
+static int refuse(const char *name, uint32_t refused, const bc4_detail *detail, size_t width, size_t height)
 {
-    fprintf(stderr, "picture: %s: refused %u: %s\n", name, (unsigned)refused, words_of(refused, detail->what));
+    const char *side = detail->what == BC4_WIDTH ? "width" : "height";
+    size_t value = detail->what == BC4_WIDTH ? width : height;
+    fprintf(stderr, "picture: %s: refused %u: ", name, (unsigned)refused);
+    switch (refused) {
+    case BC4_SIDE_IS_ZERO: fprintf(stderr, "%s is 0\n", side); break;
+    case BC4_SIDE_TOO_LARGE: fprintf(stderr, "%s %zu is over %d\n", side, value, MOST_SIDE); break;
+    case BC4_SIDE_NOT_MULTIPLE_OF_4: fprintf(stderr, "%s %zu is not a multiple of 4\n", side, value); break;
+    default: fprintf(stderr, "%s\n", words_of(refused, detail->what));
+    }
     return 1;
 }
 
@@ -76,15 +80,17 @@ static int header_character(FILE *in)
     return c;
 }
 
-/* The next number of a PGM header, and the one white space after it: after the last number, samples begin right there. Of a number
-   that is too large for all three, further digits do not count, so that none overflows. */
+/* The next number of a PGM header, and the one white space after it: after the last number, samples begin right there. A number
+   that no size_t holds counts as the largest one, which is too large for all three. */
 static bool header_number(FILE *in, size_t *number)
 {
     int c = header_character(in);
     while (isspace(c)) c = header_character(in);
     if (!isdigit(c)) return false;
-    for (*number = 0; isdigit(c); c = header_character(in))
-        if (*number <= 65535) *number = *number * 10 + (size_t)(c - '0');
+    for (*number = 0; isdigit(c); c = header_character(in)) {
+        size_t digit = (size_t)(c - '0');
+        *number = *number <= (SIZE_MAX - digit) / 10 ? *number * 10 + digit : SIZE_MAX;
+    }
     return isspace(c);
 }
 
@@ -121,8 +127,14 @@ static int encode(FILE *in, const char *in_name, const char *out_name, bool snor
     uint32_t refused = bc4_encode_tile(samples, count, width, height, options, tile, sizeof tile, &tile_length, &detail);
     if (refused == BC4_OK)
         refused = bc4_write_dds(tile, tile_length, width, height, snorm, dds, sizeof dds, &length, &detail);
-    if (refused != BC4_OK) return refuse(in_name, refused, &detail);
+    if (refused != BC4_OK) return refuse(in_name, refused, &detail, width, height);
     return save(out_name, dds, length, width, height, snorm ? "signed" : "unsigned");
+}
+
+/* A number of the DDS header, its lowest byte first. */
+static size_t dds_number(size_t at)
+{
+    return dds[at] | (size_t)dds[at + 1] << 8 | (size_t)dds[at + 2] << 16 | (size_t)dds[at + 3] << 24;
 }
 
 /* `length` bytes of IN are read already, to the front of `dds`. */
@@ -131,11 +143,11 @@ static int decode(FILE *in, size_t length, const char *in_name, const char *out_
     length += fread(dds + length, 1, sizeof dds - length, in);
     if (ferror(in)) return complain(in_name, "cannot be read");
 
-    size_t width, height, offset;
+    size_t width = dds_number(16), height = dds_number(12), offset; /* a size that is refused stays as the file has it */
     uint8_t snorm;
     bc4_detail detail = {0, 0, 0, 0};
     uint32_t refused = bc4_read_dds(dds, length, &width, &height, &snorm, &offset, &detail);
-    if (refused != BC4_OK) return refuse(in_name, refused, &detail);
+    if (refused != BC4_OK) return refuse(in_name, refused, &detail, width, height);
 
     size_t header = (size_t)snprintf((char *)pgm, sizeof pgm, "P5\n%zu %zu\n255\n", width, height);
     for (size_t row = 0; row < height / 4; row++)
@@ -144,7 +156,7 @@ static int decode(FILE *in, size_t length, const char *in_name, const char *out_
             float block[16];
             refused = bc4_block_view(dds + offset, length - offset, width, height, column, row, &at, &detail);
             if (refused == BC4_OK) refused = bc4_decode_block(dds + offset + at, 8, snorm, block, &detail);
-            if (refused != BC4_OK) return refuse(in_name, refused, &detail);
+            if (refused != BC4_OK) return refuse(in_name, refused, &detail, width, height);
             for (size_t i = 0; i < 16; i++) /* samples are in 0 to 1, so that the half and the cast round to the nearest */
                 pgm[header + (row * 4 + i / 4) * width + column * 4 + i % 4] = (uint8_t)(block[i] * 255.0 + 0.5);
         }

@@ -19,27 +19,31 @@
 #include <stdint.h>
 
 /* Major, minor and patch number of this header, a byte each. */
-#define BC4_VERSION 0x020100u
+#define BC4_VERSION 0x030000u
 
 /* ---- refusals */
-#define BC4_OK 0u              /* none */
-#define BC4_SIZE 1u            /* width or height is 0, over 1,024 or no multiple of 4; detail, of bc4_read_dds alone: the field */
-#define BC4_SAMPLE_COUNT 2u    /* the sample count is not 16, or not width * height */
-#define BC4_ENCODED_LENGTH 3u  /* the encoded length is not 8, or not width * height / 2 */
-#define BC4_OUTPUT_LENGTH 4u   /* the output is shorter than width * height / 2, for a file than 128 + width * height / 2 */
-#define BC4_DITHERED_RESEND 5u /* a resend with BC4_DITHER */
-#define BC4_NO_SUCH_BLOCK 6u   /* the column is not below width / 4, or the row not below height / 4 */
-#define BC4_SAMPLE_IS_NAN 7u   /* a sample is NaN; detail: the lowest such index */
-#define BC4_WORD_MALFORMED 8u  /* the options are no sum of the constants below */
-#define BC4_DDS_CUT 11u        /* the file is shorter than its headers; detail: the field, here and to 14 */
-#define BC4_DDS_MARK 12u       /* the file does not begin as a DDS file does */
-#define BC4_DDS_FORMAT 13u     /* the pixels are not BC4 by the names BC4U, BC4S, or DX10 with format 80 or 81 */
-#define BC4_DDS_PICTURES 14u   /* the file says that it holds more than one flat picture, or with DX10 none */
-#define BC4_DDS_BODY 15u       /* the bytes after the headers are not exactly width * height / 2 */
+#define BC4_OK 0u                      /* none */
+#define BC4_SIDE_IS_ZERO 1u            /* width or height is 0; detail: the side, here and in 9 and 10 */
+#define BC4_SAMPLE_COUNT 2u            /* the sample count is not 16, or not width * height */
+#define BC4_ENCODED_LENGTH 3u          /* the encoded length is not 8, or not width * height / 2 */
+#define BC4_OUTPUT_LENGTH 4u           /* the output is shorter than width * height / 2, for a file than 128 + width * height / 2 */
+#define BC4_DITHERED_RESEND 5u         /* a resend with BC4_DITHER */
+#define BC4_NO_SUCH_BLOCK 6u           /* the column is not below width / 4, or the row not below height / 4 */
+#define BC4_SAMPLE_IS_NAN 7u           /* a sample is NaN; detail: the lowest such index, in a tile with its row and column */
+#define BC4_WORD_MALFORMED 8u          /* the options are no sum of the constants below */
+#define BC4_SIDE_TOO_LARGE 9u          /* width or height is over 1,024 */
+#define BC4_SIDE_NOT_MULTIPLE_OF_4 10u /* width or height is no multiple of 4 */
+#define BC4_DDS_CUT 11u                /* the file is shorter than its headers; detail: the field, here and to 14 */
+#define BC4_DDS_MARK 12u               /* the file does not begin as a DDS file does */
+#define BC4_DDS_FORMAT 13u             /* the pixels are not BC4 by the names BC4U, BC4S, or DX10 with format 80 or 81 */
+#define BC4_DDS_PICTURES 14u           /* the file says that it holds more than one flat picture, or with DX10 none */
+#define BC4_DDS_BODY 15u               /* the bytes after the headers are not exactly width * height / 2 */
 
-/* ---- fields of a DDS file, for `what` below: which one is wrong, with its offset in the file */
-#define BC4_FIELD_WIDTH 1u            /* 16 */
-#define BC4_FIELD_HEIGHT 2u           /* 12 */
+/* ---- sides, for `what` below with 1, 9 and 10: the one that is so, the width where both are, with its offset in a DDS file */
+#define BC4_WIDTH 1u  /* 16 */
+#define BC4_HEIGHT 2u /* 12 */
+
+/* ---- fields of a DDS file, for `what` below with 11 to 14: which one is wrong, with its offset in the file */
 #define BC4_FIELD_HEADER 3u           /* 0: the first 128 bytes, which are not all there */
 #define BC4_FIELD_EXTENSION 4u        /* 128: the 20 bytes that DX10 asks for, which are not all there */
 #define BC4_FIELD_MAGIC 5u            /* 0: not DDS and a blank */
@@ -51,11 +55,11 @@
 #define BC4_FIELD_CUBE_FACES 11u      /* 112: one of the bits 0xFC00 */
 #define BC4_FIELD_ARRAY_SIZE 12u      /* 140: not 1 */
 
-/* What a refusal says besides its number. Where it has something to say, by the list above, all four are written, with 0 for what it says nothing about.
+/* What a refusal says besides its number. Where it has something to say, by the list of refusals, all four are written, with 0 for what it says nothing about.
    On any other answer, 0 included, all four stay as they were. */
 typedef struct bc4_detail {
-  size_t what; /* a field, by the list above */
-  size_t index;
+  size_t what; /* a side or a field, by the lists above */
+  size_t index; /* of a sample, in a tile row * width + column */
   size_t row;
   size_t column;
 } bc4_detail;
@@ -104,24 +108,24 @@ uint32_t bc4_resend(const float *samples, size_t sample_count, const uint8_t *he
 
 /* Encodes a tile of width * height samples, row by row, into the first width * height / 2 bytes of `out`, and that count into *written: its blocks,
    row by row from the top left, each as bc4_encode_block gives it. Later bytes of `out` stay as they are.
-   Refuses BC4_SIZE, BC4_SAMPLE_COUNT, BC4_OUTPUT_LENGTH, BC4_SAMPLE_IS_NAN, BC4_WORD_MALFORMED. */
+   Refuses BC4_SIDE_IS_ZERO, BC4_SIDE_TOO_LARGE, BC4_SIDE_NOT_MULTIPLE_OF_4, BC4_SAMPLE_COUNT, BC4_OUTPUT_LENGTH, BC4_SAMPLE_IS_NAN, BC4_WORD_MALFORMED. */
 uint32_t bc4_encode_tile(const float *samples, size_t sample_count, size_t width, size_t height, uint32_t options, uint8_t *out,
                          size_t out_length, size_t *written, bc4_detail *detail);
 
 /* Where in an encoded tile the block of a column and a row of blocks stands: its eight bytes are tile[*offset] to tile[*offset + 7].
-   Refuses BC4_SIZE, BC4_ENCODED_LENGTH, BC4_NO_SUCH_BLOCK. */
+   Refuses BC4_SIDE_IS_ZERO, BC4_SIDE_TOO_LARGE, BC4_SIDE_NOT_MULTIPLE_OF_4, BC4_ENCODED_LENGTH, BC4_NO_SUCH_BLOCK. */
 uint32_t bc4_block_view(const uint8_t *tile, size_t tile_length, size_t width, size_t height, size_t column, size_t row, size_t *offset,
                         bc4_detail *detail);
 
 /* Writes an encoded tile as a DDS file into the first 128 + width * height / 2 bytes of `out`, and that count into *written: a header with BC4U, with
    snorm BC4S, and then the tile's bytes. Later bytes of `out` stay as they are.
-   Refuses BC4_SIZE, BC4_ENCODED_LENGTH, BC4_OUTPUT_LENGTH. */
+   Refuses BC4_SIDE_IS_ZERO, BC4_SIDE_TOO_LARGE, BC4_SIDE_NOT_MULTIPLE_OF_4, BC4_ENCODED_LENGTH, BC4_OUTPUT_LENGTH. */
 uint32_t bc4_write_dds(const uint8_t *tile, size_t tile_length, size_t width, size_t height, bool snorm, uint8_t *out, size_t out_length,
                        size_t *written, bc4_detail *detail);
 
 /* Reads a DDS file of one BC4 tile: its size into *width and *height, 1 into *snorm where the blocks are signed and 0 where not, and into *offset where its
    width * height / 2 bytes start: they are file[*offset] to the file's last byte. Fields that no refusal names may hold anything.
-   Refuses BC4_DDS_CUT, BC4_DDS_MARK, BC4_DDS_FORMAT, BC4_DDS_PICTURES, BC4_SIZE, BC4_DDS_BODY. */
+   Refuses BC4_DDS_CUT, BC4_DDS_MARK, BC4_DDS_FORMAT, BC4_DDS_PICTURES, BC4_SIDE_IS_ZERO, BC4_SIDE_TOO_LARGE, BC4_SIDE_NOT_MULTIPLE_OF_4, BC4_DDS_BODY. */
 uint32_t bc4_read_dds(const uint8_t *file, size_t file_length, size_t *width, size_t *height, uint8_t *snorm, size_t *offset,
                       bc4_detail *detail);
 

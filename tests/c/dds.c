@@ -83,13 +83,22 @@ static bool writes(size_t w, size_t h, bool is_signed, size_t more) {
   return wrote && counted_right && memcmp(got, header, HEADER) == 0 && memcmp(got + HEADER, at(&tile), length) == 0 && untouched();
 }
 
+static bool write_refuses_side(size_t length, size_t w, size_t h, size_t room, uint32_t number, size_t side) {
+  return refused(write_dds(length, w, h, false, room), number, side) && refused(write_dds(length, w, h, true, room), number, side);
+}
+
 static bool write_refuses(size_t length, size_t w, size_t h, size_t room, uint32_t number) {
-  return write_dds(length, w, h, false, room) == number && untouched() && write_dds(length, w, h, true, room) == number && untouched();
+  return write_refuses_side(length, w, h, room, number, 0);
+}
+
+/* With all else wrong, and a bad size with all else right. */
+static void write_size(size_t w, size_t h, uint32_t number, size_t side) {
+  const size_t fits = area(w, h, 2 * tile.length) / 2;
+  EXPECT(write_refuses_side(1, w, h, 0, number, side));
+  if (side != 0) EXPECT(write_refuses_side(fits, w, h, HEADER + fits, number, side));
 }
 
 static void written_files(void) {
-  /* the last two are right where only the lower 16 or 32 bits are looked at */
-  static const size_t bad[] = {0, 1, 2, 3, 5, 6, 1023, 1025, 1028, (size_t)-4, (size_t)-1, (size_t)1 << 63, 0x10008, ((size_t)1 << 32) + 8};
   EXPECT(writes(8, 4, false, 0));
   EXPECT(memcmp(got, eight_by_four, HEADER) == 0);
   for (size_t more = 0; more <= SPARE; more += SPARE / 2)
@@ -107,18 +116,10 @@ static void written_files(void) {
   EXPECT(write_refuses(MOST_TILE + 1, 1024, 1024, HEADER + MOST_TILE, BC4_ENCODED_LENGTH));
   EXPECT(write_refuses(MOST_TILE, 1024, 1024, HEADER + MOST_TILE - 1, BC4_OUTPUT_LENGTH));
   EXPECT(write_refuses(MOST_TILE, 1024, 1024, MOST_TILE, BC4_OUTPUT_LENGTH));
-  EXPECT(write_refuses(MOST_TILE, 1024, 1028, HEADER + MOST_TILE, BC4_SIZE));
-  EXPECT(write_refuses(MOST_TILE, 1028, 1024, HEADER + MOST_TILE, BC4_SIZE));
-  lend_all(2056); /* the most that a bad size below asks for */
-  for (size_t k = 0; k < sizeof bad / sizeof *bad; k++) {
-    const size_t fits = bad[k] <= 1028 ? bad[k] * 4 / 2 : 16;
-    EXPECT(write_refuses(fits, bad[k], 4, HEADER + fits, BC4_SIZE));
-    EXPECT(write_refuses(fits, 4, bad[k], HEADER + fits, BC4_SIZE));
-    EXPECT(write_refuses(fits + 1, bad[k], 4, HEADER + fits, BC4_SIZE));
-    EXPECT(write_refuses(fits, 4, bad[k], HEADER + fits - 1, BC4_SIZE));
-    EXPECT(write_refuses(fits + 1, 4, bad[k], 0, BC4_SIZE));
-    EXPECT(write_refuses(0, bad[k], bad[k], 0, BC4_SIZE));
-  }
+  EXPECT(write_refuses_side(MOST_TILE, 1024, 1028, HEADER + MOST_TILE, BC4_SIDE_TOO_LARGE, BC4_HEIGHT));
+  EXPECT(write_refuses_side(MOST_TILE, 1028, 1024, HEADER + MOST_TILE, BC4_SIDE_TOO_LARGE, BC4_WIDTH));
+  lend_all(2056); /* what 1,028 by 4 asks for */
+  every_size(write_size, SIZE_MAX, BC4_ENCODED_LENGTH);
   lend_all(16);
   for (size_t length = 0; length <= 16 + SPARE; length++) {
     if (length == 16) continue;
@@ -178,12 +179,7 @@ static bool reads(picture p) {
   return read && w && h && start && flag == (p.is_signed ? 1 : 0) && untouched();
 }
 
-/* A field of 0 is none: then the detail stays too. */
-static bool refuses(size_t length, uint32_t number, size_t field) {
-  const bool refused = read_dds(length) == number;
-  const bool field_right = field == 0 || told(&detail, field, 0);
-  return refused && field_right && untouched();
-}
+static bool refuses(size_t length, uint32_t number, size_t field) { return refused(read_dds(length), number, field); }
 
 static void lengths(void) {
   for (enum kind kind = BC4U; kind < KINDS; kind++) {
@@ -231,14 +227,18 @@ static const struct named {
     {24, 2, 0xfffffffe, BC4_DDS_PICTURES, BC4_FIELD_DEPTH},
     {112, 0x400, 0xfc00, BC4_DDS_PICTURES, BC4_FIELD_CUBE_FACES},
     {140, 2, 0xffffffff, BC4_DDS_PICTURES, BC4_FIELD_ARRAY_SIZE},
-    {16, 6, 0xfffffc0b, BC4_SIZE, BC4_FIELD_WIDTH},  /* no multiple of 4 by bits 0 and 1, 0 by bit 3, over 1,024 by bit 10 and those above */
-    {12, 6, 0xfffffc07, BC4_SIZE, BC4_FIELD_HEIGHT}, /* the same, but 0 by bit 2 */
+    {16, 0, 8, BC4_SIDE_IS_ZERO, BC4_WIDTH},
+    {12, 0, 4, BC4_SIDE_IS_ZERO, BC4_HEIGHT},
+    {16, 2000, 0xfffffc00, BC4_SIDE_TOO_LARGE, BC4_WIDTH},
+    {12, 2000, 0xfffffc00, BC4_SIDE_TOO_LARGE, BC4_HEIGHT},
+    {16, 6, 3, BC4_SIDE_NOT_MULTIPLE_OF_4, BC4_WIDTH},
+    {12, 6, 3, BC4_SIDE_NOT_MULTIPLE_OF_4, BC4_HEIGHT},
 };
 #define FIELDS (sizeof fields / sizeof *fields)
 
-static const struct named *named_at(size_t offset) {
+static const struct named *named_at(size_t offset, uint32_t bits) {
   for (size_t i = 0; i < FIELDS; i++)
-    if (fields[i].offset == offset) return fields + i;
+    if (fields[i].offset == offset && (fields[i].bits & bits) != 0) return fields + i;
   return NULL;
 }
 
@@ -250,9 +250,9 @@ static void every_bit(void) {
     other_format.is_signed = !p.is_signed;
     for (size_t where = 0; where < p.offset; where += 4)
       for (uint32_t bit = 1; bit != 0; bit <<= 1) {
-        const struct named *f = named_at(where);
+        const struct named *f = named_at(where, bit);
         set(where, word(where) ^ bit);
-        if (f != NULL && (f->bits & bit) != 0)
+        if (f != NULL)
           EXPECT(refuses(p.length, f->number, f->field));
         else if (where == 12 || where == 16)
           EXPECT(refuses(p.length, BC4_DDS_BODY, 0)); /* a size that another body goes with */
@@ -272,7 +272,7 @@ static void unnamed(void) {
     for (size_t k = 0; k < sizeof values / sizeof *values; k++) {
       const picture p = lend_file(8, 4, kind);
       for (size_t where = 0; where < p.offset; where += 4)
-        if (named_at(where) == NULL) set(where, values[k]);
+        if (named_at(where, 0xffffffff) == NULL) set(where, values[k]);
       set(112, values[k] & ~(uint32_t)0xfc00);
       EXPECT(reads(p));
       for (size_t where = p.offset; where < p.length; where += 4) set(where, values[k]);
@@ -329,8 +329,8 @@ static void edges(void) {
       {140, 1, BC4_OK, 0},
       {140, 2, BC4_DDS_PICTURES, BC4_FIELD_ARRAY_SIZE},
       {140, 0xffffffff, BC4_DDS_PICTURES, BC4_FIELD_ARRAY_SIZE},
-      {16, 0x00010008, BC4_SIZE, BC4_FIELD_WIDTH},
-      {12, 0x00010004, BC4_SIZE, BC4_FIELD_HEIGHT},
+      {16, 0x00010008, BC4_SIDE_TOO_LARGE, BC4_WIDTH},
+      {12, 0x00010004, BC4_SIDE_TOO_LARGE, BC4_HEIGHT},
       {16, 12, BC4_DDS_BODY, 0},
       {12, 8, BC4_DDS_BODY, 0},
   };
@@ -347,28 +347,19 @@ static void edges(void) {
   }
 }
 
-/* Sides that are refused, and a body of as many bytes as they would ask for where that is possible. */
-static void sides(void) {
-  static const uint32_t bad[] = {0, 1, 2, 3, 5, 6, 7, 1023, 1025, 1026, 1028, 0x8000, 0x10004, 0x10008, 0x80000008, 0xfffffffc, 0xffffffff};
-  for (enum kind kind = BC4U; kind < KINDS; kind++)
-    for (size_t k = 0; k < sizeof bad / sizeof *bad; k++) {
-      picture p = lend_file(1024, 4, kind);
-      size_t fits = bad[k] <= 1028 ? p.offset + bad[k] * 4 / 2 : p.length;
-      set(16, bad[k]);
-      EXPECT(refuses(p.length, BC4_SIZE, BC4_FIELD_WIDTH));
-      EXPECT(refuses(fits, BC4_SIZE, BC4_FIELD_WIDTH));
-      set(12, bad[k]);
-      EXPECT(refuses(p.length, BC4_SIZE, BC4_FIELD_WIDTH));
-      p = lend_file(4, 1024, kind);
-      fits = bad[k] <= 1028 ? p.offset + bad[k] * 4 / 2 : p.length;
-      set(12, bad[k]);
-      EXPECT(refuses(p.length, BC4_SIZE, BC4_FIELD_HEIGHT));
-      EXPECT(refuses(fits, BC4_SIZE, BC4_FIELD_HEIGHT));
-    }
+/* With a wrong body, and a bad size with a body of as many bytes as it asks for, where that is possible. */
+static void read_size(size_t w, size_t h, uint32_t number, size_t side) {
+  for (enum kind kind = BC4U; kind < KINDS; kind++) {
+    const picture p = lend_file(1024, 4, kind);
+    set(16, (uint32_t)w);
+    set(12, (uint32_t)h);
+    EXPECT(refuses(p.offset + 1, number, side));
+    if (side != 0) EXPECT(refuses(p.offset + area(w, h, 2 * tile.length) / 2, number, side));
+  }
 }
 
 /* Of two fields that are wrong the earlier one is named, and either before a body of a wrong length and after headers that are cut. Then all are wrong,
-   and become right from the first to the last. */
+   and become right from the first to the last. A side is wrong in three ways, one after the other. */
 static void order(void) {
   for (enum kind kind = BC4U; kind < KINDS; kind++) {
     const picture p = lend_file(8, 4, kind);
@@ -377,6 +368,7 @@ static void order(void) {
     for (size_t i = 0; i < FIELDS; i++)
       for (size_t j = i; j < FIELDS; j++) {
         if (fields[i].offset >= p.offset || fields[j].offset >= p.offset) continue;
+        if (i != j && fields[i].offset == fields[j].offset) continue;
         set(fields[i].offset, fields[i].wrong);
         set(fields[j].offset, fields[j].wrong);
         EXPECT(refuses(p.length, fields[i].number, fields[i].field));
@@ -388,10 +380,10 @@ static void order(void) {
         set(fields[i].offset, right[i]);
         set(fields[j].offset, right[j]);
       }
-    for (size_t i = 0; i < FIELDS; i++)
-      if (fields[i].offset < p.offset) set(fields[i].offset, fields[i].wrong);
     for (size_t i = 0; i < FIELDS; i++) {
       if (fields[i].offset >= p.offset) continue;
+      for (size_t j = FIELDS; j-- > i;) /* so that of a side's ways the first that is left is set last */
+        if (fields[j].offset < p.offset) set(fields[j].offset, fields[j].wrong);
       EXPECT(refuses(p.length + 1, fields[i].number, fields[i].field));
       set(fields[i].offset, right[i]);
     }
@@ -448,7 +440,7 @@ int main(void) {
   every_bit();
   unnamed();
   edges();
-  sides();
+  every_size(read_size, 0xffffffff, BC4_DDS_BODY);
   order();
   there_and_back();
   stack();

@@ -6,10 +6,11 @@
 #include "lent.h"
 
 #define MOST 16384
-LENT(samples, MOST);
+#define MOST_SAMPLES (1024u * 1024u)
+LENT(samples, MOST_SAMPLES * sizeof(float));
 LENT(encoded, MOST);
 LENT(block, MOST);
-LENT(out, MOST);
+LENT(out, MOST_SAMPLES / 2);
 LENT(fresh, MOST);
 LENT(written, MOST);
 LENT(detail, MOST);
@@ -24,7 +25,7 @@ static void lend_all(void) {
 
 static bool untouched(void) { return as_before(all, sizeof all / sizeof *all); }
 
-static bool told_index(size_t index) { return told(&detail, 0, index); }
+static bool told_index(size_t index) { return told(0, index, 0, 0); }
 
 /* ---- samples and blocks */
 static float nan_of(void) {
@@ -206,12 +207,18 @@ static uint32_t tile(size_t count, size_t width, size_t height, uint32_t options
   return bc4_encode_tile(at(&samples), count, width, height, options, at(&out), room, at(&written), at(&detail));
 }
 
+static void lend_tile(size_t count, size_t room) {
+  lend_all();
+  lend(&samples, count * sizeof(float));
+  lend(&out, room);
+  lend_samples(0.5f, count);
+}
+
 static void tiles(size_t width, size_t height, uint32_t options, size_t room) {
-  static uint8_t got[MOST];
+  static uint8_t got[MOST_SAMPLES / 2];
   float x[16];
   const size_t n = width * height / 2;
-  lend_all();
-  lend_samples(0.0f, width * height);
+  lend_tile(width * height, room);
   for (size_t i = 0; i < width * height; i++) set_sample(i, (float)(i * 7919 % 1009) / 1009.0f);
   EXPECT(tile(width * height, width, height, options, room) == BC4_OK);
   EXPECT(taken_size(&written) == n);
@@ -231,28 +238,47 @@ static void tiles(size_t width, size_t height, uint32_t options, size_t room) {
     }
 }
 
+/* One sample is NaN. */
+static void tile_nan(size_t width, size_t height, size_t index, size_t row, size_t column) {
+  const size_t count = width * height;
+  lend_tile(count, count / 2);
+  set_sample(index, nan_of());
+  EXPECT(tile(count, width, height, 0, count / 2) == BC4_SAMPLE_IS_NAN);
+  EXPECT(told(0, index, row, column));
+  EXPECT(untouched());
+}
+
+/* With all else wrong, and a bad size with all else right but for a NaN. */
+static void tile_size(size_t width, size_t height, uint32_t number, size_t side) {
+  const size_t count = area(width, height, samples.length / sizeof(float));
+  EXPECT(refused(tile(1, width, height, malformed[0], 0), number, side));
+  if (side != 0) EXPECT(refused(tile(count, width, height, 0, count / 2), number, side));
+}
+
 static void encode_tiles(void) {
-  static const size_t bad[] = {0, 1, 2, 3, 6, 1028, (size_t)-4, (size_t)-1, (size_t)1 << 63};
   tiles(4, 4, 0, 8);
   tiles(8, 4, BC4_USE_INTER4, 16);
   tiles(4, 8, BC4_DITHER, 100);
   tiles(16, 12, BC4_SNORM | BC4_MAX_REFINE_ITER(3) | BC4_HIGH_QUALITY, 96);
   tiles(1024, 4, 0, 2049);
   tiles(4, 1024, 0, 2048);
+  tiles(1024, 1024, 0, MOST_SAMPLES / 2);
+  tile_nan(8, 4, 13, 1, 5);
+  for (size_t index = 0; index < 8 * 12; index++) tile_nan(8, 12, index, index / 8, index % 8);
+  tile_nan(1024, 1024, 1048575, 1023, 1023);
+  lend_all();
+  set_sample(0, nan_of());
+  every_size(tile_size, SIZE_MAX, BC4_SAMPLE_COUNT);
   lend_all();
   lend_samples(0.5f, 64);
   set_sample(17, nan_of());
   set_sample(50, nan_of());
-  for (size_t k = 0; k < sizeof bad / sizeof *bad; k++) {
-    EXPECT(tile(63, bad[k], 8, malformed[0], 0) == BC4_SIZE && untouched());
-    EXPECT(tile(64, 8, bad[k], 0, 32) == BC4_SIZE && untouched());
-  }
   EXPECT(tile(63, 8, 8, malformed[0], 0) == BC4_SAMPLE_COUNT && untouched());
   EXPECT(tile(64, 8, 4, 0, 32) == BC4_SAMPLE_COUNT && untouched());
   EXPECT(tile(64, 8, 8, malformed[0], 31) == BC4_OUTPUT_LENGTH && untouched());
   EXPECT(tile(64, 8, 8, 0, 0) == BC4_OUTPUT_LENGTH && untouched());
   EXPECT(tile(64, 8, 8, malformed[0], 32) == BC4_SAMPLE_IS_NAN);
-  EXPECT(told_index(17));
+  EXPECT(told(0, 17, 2, 1));
   EXPECT(untouched());
   lend_samples(0.5f, 64);
   EXPECT(tile(64, 8, 8, malformed[0], 32) == BC4_WORD_MALFORMED && untouched());
@@ -263,6 +289,12 @@ static uint32_t view(size_t length, size_t width, size_t height, size_t column, 
   return bc4_block_view(at(&encoded), length, width, height, column, row, at(&offset), at(&detail));
 }
 
+/* With all else wrong, and a bad size with all else right. */
+static void view_size(size_t width, size_t height, uint32_t number, size_t side) {
+  EXPECT(refused(view(1, width, height, SIZE_MAX, SIZE_MAX), number, side));
+  if (side != 0) EXPECT(refused(view(area(width, height, 2 * encoded.length) / 2, width, height, 0, 0), number, side));
+}
+
 static void block_views(void) {
   lend_all();
   for (size_t row = 0; row < 3; row++)
@@ -271,8 +303,7 @@ static void block_views(void) {
       EXPECT(taken_size(&offset) == 16 * row + 8 * column);
       EXPECT(untouched());
     }
-  EXPECT(view(47, 0, 12, 9, 9) == BC4_SIZE && untouched());
-  EXPECT(view(48, 8, 1028, 0, 0) == BC4_SIZE && untouched());
+  every_size(view_size, SIZE_MAX, BC4_ENCODED_LENGTH);
   EXPECT(view(47, 8, 12, 2, 0) == BC4_ENCODED_LENGTH && untouched());
   EXPECT(view(49, 8, 12, 0, 0) == BC4_ENCODED_LENGTH && untouched());
   EXPECT(view(48, 8, 12, 2, 0) == BC4_NO_SUCH_BLOCK && untouched());

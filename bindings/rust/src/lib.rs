@@ -111,10 +111,9 @@ extern "C" {
     ) -> u32;
 }
 
-/// What a refusal says besides its number, as the library writes it: `what`, a field of a DDS file, or an index. No refusal says a row or a column yet.
+/// What a refusal says besides its number, as the library writes it: `what`, a side or a field of a DDS file, or an index, in a tile with its row and column.
 #[repr(C)]
 #[derive(Clone, Copy, Default)]
-#[allow(dead_code)]
 struct Detail {
     what: usize,
     index: usize,
@@ -168,14 +167,27 @@ impl Options {
     }
 }
 
-/// What is wrong in the headers of a DDS file. A number stands there in four bytes, the lowest first.
+/// The side of a tile that is wrong: the width where a refusal applies to both.
+#[derive(Clone, Copy, Debug, PartialEq, Eq)]
+#[allow(missing_docs)]
+pub enum Side {
+    Width,
+    Height,
+}
+
+impl fmt::Display for Side {
+    fn fmt(&self, f: &mut fmt::Formatter<'_>) -> fmt::Result {
+        f.write_str(match self {
+            Side::Width => "width",
+            Side::Height => "height",
+        })
+    }
+}
+
+/// What is wrong in the headers of a DDS file, but for a [`Side`]. A number stands there in four bytes, the lowest first.
 #[derive(Clone, Copy, Debug, PartialEq, Eq)]
 #[non_exhaustive]
 pub enum Field {
-    /// At byte 16: 0, over 1,024 or no multiple of 4.
-    Width,
-    /// At byte 12: 0, over 1,024 or no multiple of 4.
-    Height,
     /// The first 128 bytes, which are not all there.
     Header,
     /// The 20 bytes from 128 on that DX10 asks for, which are not all there.
@@ -202,8 +214,6 @@ impl Field {
     /// By the number that the library says in [`Detail::what`].
     fn said(what: usize) -> Field {
         match what {
-            1 => Field::Width,
-            2 => Field::Height,
             3 => Field::Header,
             4 => Field::Extension,
             5 => Field::Magic,
@@ -227,8 +237,6 @@ impl Field {
 impl fmt::Display for Field {
     fn fmt(&self, f: &mut fmt::Formatter<'_>) -> fmt::Result {
         f.write_str(match self {
-            Field::Width => "the width (at byte 16) is 0, over 1,024 or no multiple of 4",
-            Field::Height => "the height (at byte 12) is 0, over 1,024 or no multiple of 4",
             Field::Header => "the file is shorter than a DDS header, 128 bytes",
             Field::Extension => "the file is shorter than a DDS header with DX10, 148 bytes",
             Field::Magic => "the file does not begin with DDS and a blank",
@@ -249,8 +257,8 @@ impl fmt::Display for Field {
 #[derive(Clone, Copy, Debug, PartialEq, Eq)]
 #[non_exhaustive]
 pub enum Refusal {
-    /// 1: a side of the tile is 0, over 1,024 or no multiple of 4. Of a DDS file that is read, it is [`Refusal::DdsHeader`] with the side.
-    Size,
+    /// 1: a side of the tile is 0.
+    SideIsZero(Side),
     /// 2: the sample count is not 16, or not width * height.
     SampleCount,
     /// 3: the encoded length is not 8, or not width * height / 2.
@@ -261,11 +269,22 @@ pub enum Refusal {
     DitheredResend,
     /// 6: the column or the row of blocks is none of the tile's.
     NoSuchBlock,
-    /// 7: a sample is NaN; the lowest index.
+    /// 7: a sample of a block is NaN; the lowest index.
     SampleIsNan(usize),
+    /// 7: a sample of a tile is NaN; the lowest index, row * width + column.
+    #[allow(missing_docs)]
+    TileSampleIsNan {
+        index: usize,
+        row: usize,
+        column: usize,
+    },
     /// 8: the options word is malformed. [`Options`] never make such a word.
     WordMalformed,
-    /// 1 and 11 to 14: a DDS file is none of one BC4 tile; the field that says so.
+    /// 9: a side of the tile is over 1,024; its length.
+    SideTooLarge(Side, usize),
+    /// 10: a side of the tile is no multiple of 4; its length.
+    SideNotMultipleOf4(Side, usize),
+    /// 11 to 14: a DDS file is none of one BC4 tile; the field that says so.
     DdsHeader(Field),
     /// 15: the bytes after the headers of a DDS file are not exactly width * height / 2.
     DdsBody,
@@ -275,22 +294,24 @@ impl Refusal {
     /// The number that C sees.
     ///
     /// ```
-    /// use bc4::{Field, Refusal};
+    /// use bc4::{Field, Refusal, Side};
     /// assert_eq!(Refusal::SampleIsNan(3).number(), 7);
+    /// assert_eq!(Refusal::SideTooLarge(Side::Width, 2000).number(), 9);
     /// assert_eq!(Refusal::DdsHeader(Field::Depth).number(), 14);
     /// ```
     pub fn number(self) -> u32 {
         match self {
-            Refusal::Size => 1,
+            Refusal::SideIsZero(_) => 1,
             Refusal::SampleCount => 2,
             Refusal::EncodedLength => 3,
             Refusal::OutputLength => 4,
             Refusal::DitheredResend => 5,
             Refusal::NoSuchBlock => 6,
-            Refusal::SampleIsNan(_) => 7,
+            Refusal::SampleIsNan(_) | Refusal::TileSampleIsNan { .. } => 7,
             Refusal::WordMalformed => 8,
+            Refusal::SideTooLarge(..) => 9,
+            Refusal::SideNotMultipleOf4(..) => 10,
             Refusal::DdsHeader(field) => match field {
-                Field::Width | Field::Height => 1,
                 Field::Header | Field::Extension => 11,
                 Field::Magic | Field::HeaderSize => 12,
                 Field::FourCharacters | Field::ExtensionFormat => 13,
@@ -301,10 +322,22 @@ impl Refusal {
     }
 }
 
+/// What is wrong, in words for an operator.
+///
+/// ```
+/// use bc4::{encode_tile, Options};
+/// let mut samples = [1.0; 32];
+/// samples[13] = f32::NAN;
+/// let text = |width, height| encode_tile(&samples, width, height, Options::default(), &mut [0; 16]).unwrap_err().to_string();
+/// assert_eq!(text(8, 0), "height is 0");
+/// assert_eq!(text(2000, 4), "width 2000 is over 1024");
+/// assert_eq!(text(8, 1022), "height 1022 is not a multiple of 4");
+/// assert_eq!(text(8, 4), "sample 13 (row 1, column 5) is NaN");
+/// ```
 impl fmt::Display for Refusal {
     fn fmt(&self, f: &mut fmt::Formatter<'_>) -> fmt::Result {
         match self {
-            Refusal::Size => f.write_str("a side of the tile is 0, over 1,024 or no multiple of 4"),
+            Refusal::SideIsZero(side) => write!(f, "{side} is 0"),
             Refusal::SampleCount => {
                 f.write_str("the sample count is not 16, or not width * height")
             }
@@ -317,7 +350,14 @@ impl fmt::Display for Refusal {
             Refusal::DitheredResend => f.write_str("a resend with dither"),
             Refusal::NoSuchBlock => f.write_str("the tile has no such block"),
             Refusal::SampleIsNan(i) => write!(f, "sample {i} is NaN"),
+            Refusal::TileSampleIsNan { index, row, column } => {
+                write!(f, "sample {index} (row {row}, column {column}) is NaN")
+            }
             Refusal::WordMalformed => f.write_str("the options word is malformed"),
+            Refusal::SideTooLarge(side, length) => write!(f, "{side} {length} is over 1024"),
+            Refusal::SideNotMultipleOf4(side, length) => {
+                write!(f, "{side} {length} is not a multiple of 4")
+            }
             Refusal::DdsHeader(field) => field.fmt(f),
             Refusal::DdsBody => {
                 f.write_str("the bytes after the DDS headers are not exactly width * height / 2")
@@ -331,8 +371,6 @@ impl core::error::Error for Refusal {}
 fn checked(number: u32, detail: Detail) -> Result<(), Refusal> {
     Err(match number {
         0 => return Ok(()),
-        // Only the call that reads a file names the side; every other one leaves the detail as it was lent, all 0.
-        1 if detail.what == 0 => Refusal::Size,
         2 => Refusal::SampleCount,
         3 => Refusal::EncodedLength,
         4 => Refusal::OutputLength,
@@ -340,16 +378,38 @@ fn checked(number: u32, detail: Detail) -> Result<(), Refusal> {
         6 => Refusal::NoSuchBlock,
         7 => Refusal::SampleIsNan(detail.index),
         8 => Refusal::WordMalformed,
-        1 | 11..=14 => Refusal::DdsHeader(Field::said(detail.what)),
+        11..=14 => Refusal::DdsHeader(Field::said(detail.what)),
         15 => Refusal::DdsBody,
         _ => unreachable!("the library has no other number"),
+    })
+}
+
+/// As [`checked`], for a call with a size.
+fn checked_size(number: u32, detail: Detail, width: usize, height: usize) -> Result<(), Refusal> {
+    let Detail {
+        what,
+        index,
+        row,
+        column,
+    } = detail;
+    let refusal: fn(Side, usize) -> Refusal = match number {
+        1 => |side, _| Refusal::SideIsZero(side),
+        7 => return Err(Refusal::TileSampleIsNan { index, row, column }),
+        9 => Refusal::SideTooLarge,
+        10 => Refusal::SideNotMultipleOf4,
+        _ => return checked(number, detail),
+    };
+    Err(match what {
+        1 => refusal(Side::Width, width),
+        2 => refusal(Side::Height, height),
+        _ => unreachable!("the library has no other side"),
     })
 }
 
 /// Major, minor and patch number of the library, a byte each.
 ///
 /// ```
-/// assert_eq!(bc4::version(), 0x020100);
+/// assert_eq!(bc4::version(), 0x030000);
 /// ```
 pub fn version() -> u32 {
     // SAFETY: it takes nothing.
@@ -483,14 +543,15 @@ pub fn resend(samples: &[f32], held: &[u8], options: Options) -> Result<Held, Re
 /// Encodes a tile of width * height samples, row by row, into the first width * height / 2 bytes of `out`, and answers that count. The blocks stand
 /// row by row from the top left, each as [`encode_block`] gives it. Later bytes of `out` stay as they are, and on a refusal all do.
 ///
-/// Refuses [`Refusal::Size`], [`Refusal::SampleCount`], [`Refusal::OutputLength`], [`Refusal::SampleIsNan`].
+/// Refuses [`Refusal::SideIsZero`], [`Refusal::SideTooLarge`], [`Refusal::SideNotMultipleOf4`], [`Refusal::SampleCount`], [`Refusal::OutputLength`],
+/// [`Refusal::TileSampleIsNan`].
 ///
 /// ```
-/// use bc4::{encode_tile, Options, Refusal};
+/// use bc4::{encode_tile, Options, Refusal, Side};
 /// let mut out = [7; 18];
 /// assert_eq!(encode_tile(&[1.0; 32], 8, 4, Options::default(), &mut out), Ok(16));
 /// assert_eq!(out, [255, 0, 0, 0, 0, 0, 0, 0, 255, 0, 0, 0, 0, 0, 0, 0, 7, 7]);
-/// assert_eq!(encode_tile(&[1.0; 36], 6, 6, Options::default(), &mut out), Err(Refusal::Size));
+/// assert_eq!(encode_tile(&[1.0; 36], 6, 6, Options::default(), &mut out), Err(Refusal::SideNotMultipleOf4(Side::Width, 6)));
 /// assert_eq!(encode_tile(&[1.0; 32], 8, 4, Options::default(), &mut out[..15]), Err(Refusal::OutputLength));
 /// ```
 pub fn encode_tile(
@@ -515,13 +576,13 @@ pub fn encode_tile(
             &mut detail,
         )
     };
-    checked(number, detail)?;
+    checked_size(number, detail, width, height)?;
     Ok(written)
 }
 
 /// The eight bytes of one block of an encoded tile: that part of it, not a copy.
 ///
-/// Refuses [`Refusal::Size`], [`Refusal::EncodedLength`], [`Refusal::NoSuchBlock`].
+/// Refuses [`Refusal::SideIsZero`], [`Refusal::SideTooLarge`], [`Refusal::SideNotMultipleOf4`], [`Refusal::EncodedLength`], [`Refusal::NoSuchBlock`].
 ///
 /// ```
 /// use bc4::{block_view, Refusal};
@@ -550,14 +611,14 @@ pub fn block_view(
             &mut detail,
         )
     };
-    checked(number, detail)?;
+    checked_size(number, detail, width, height)?;
     Ok(&tile[offset..offset + 8])
 }
 
 /// Writes an encoded tile as a DDS file into the first 128 + width * height / 2 bytes of `out`, and answers that count: a header with `BC4U`, with `snorm`
 /// `BC4S`, and then the tile's bytes. Later bytes of `out` stay as they are, and on a refusal all do.
 ///
-/// Refuses [`Refusal::Size`], [`Refusal::EncodedLength`], [`Refusal::OutputLength`].
+/// Refuses [`Refusal::SideIsZero`], [`Refusal::SideTooLarge`], [`Refusal::SideNotMultipleOf4`], [`Refusal::EncodedLength`], [`Refusal::OutputLength`].
 ///
 /// ```
 /// use bc4::{write_dds, Refusal};
@@ -590,7 +651,7 @@ pub fn write_dds(
             &mut detail,
         )
     };
-    checked(number, detail)?;
+    checked_size(number, detail, width, height)?;
     Ok(written)
 }
 
@@ -607,10 +668,18 @@ pub struct Picture<'a> {
     pub tile: &'a [u8],
 }
 
+/// A side as a DDS file says it, or 0 where the file ends before.
+fn side_at(file: &[u8], offset: usize) -> usize {
+    file.get(offset..)
+        .and_then(|rest| rest.first_chunk())
+        .map_or(0, |&bytes| u32::from_le_bytes(bytes) as usize)
+}
+
 /// Reads a DDS file of one BC4 tile. Fields of its headers that no refusal names may hold anything.
 ///
 /// Refuses [`Refusal::DdsHeader`], with [`Field::Header`], [`Field::Extension`], [`Field::Magic`], [`Field::HeaderSize`], [`Field::FourCharacters`],
-/// [`Field::ExtensionFormat`], [`Field::MipCount`], [`Field::Depth`], [`Field::CubeFaces`], [`Field::ArraySize`], [`Field::Width`], [`Field::Height`], and
+/// [`Field::ExtensionFormat`], [`Field::MipCount`], [`Field::Depth`], [`Field::CubeFaces`], [`Field::ArraySize`], and then
+/// [`Refusal::SideIsZero`], [`Refusal::SideTooLarge`], [`Refusal::SideNotMultipleOf4`], of the width at byte 16 and the height at byte 12, and
 /// [`Refusal::DdsBody`].
 ///
 /// ```
@@ -639,7 +708,7 @@ pub fn read_dds(file: &[u8]) -> Result<Picture<'_>, Refusal> {
             &mut detail,
         )
     };
-    checked(number, detail)?;
+    checked_size(number, detail, side_at(file, 16), side_at(file, 12))?;
     Ok(Picture {
         width,
         height,

@@ -12,6 +12,8 @@ pub use options::Options;
 pub use options::Quantization;
 pub use refusal::Checked;
 pub use refusal::Refusal;
+pub use refusal::Side;
+pub use refusal::Spot;
 pub use refusal::number;
 
 pub enum Encoded {

@@ -6,6 +6,7 @@ mod ends;
 mod errors;
 mod large;
 mod resending;
+mod sizes;
 mod tiles;
 mod views;
 
@@ -16,6 +17,7 @@ fn main() {
     resending::cases();
     tiles::cases();
     views::cases();
+    sizes::cases();
     large::cases();
     ends::cases();
 }

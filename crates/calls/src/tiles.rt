@@ -1,4 +1,4 @@
-// Encode tile: refusals 1, 2, 4 and 7. A line shows all of the lent output by its checksum, the bytes past what is written included.
+// Encode tile: refusals 1, 9, 10, 2, 4 and 7. A line shows all of the lent output by its checksum, the bytes past what is written included.
 use crate::encoding;
 use bc4::Tiled;
 use cases::given;
@@ -36,7 +36,7 @@ fn into(samples: &[f32], width: usize, height: usize, out: &mut [u8], room: usiz
 }
 
 // With NaN at two indexes or none.
-fn tiled(width: usize, height: usize, count: usize, room: usize, first: usize, second: usize) {
+pub fn tiled(width: usize, height: usize, count: usize, room: usize, first: usize, second: usize) {
     let mut s = [0.0f32; 4112];
     given::fill_samples(&mut s, first, second);
     let mut out = [0xa5u8; 2064];
@@ -88,6 +88,7 @@ fn nans() {
     tiled(8, 12, 96, 48, 95, NONE);
     tiled(8, 12, 96, 48, 40, 17);
     tiled(8, 12, 96, 48, 96, NONE);
+    tiled(8, 4, 32, 16, 13, NONE);
     tiled(1024, 4, 4096, 2048, 4095, NONE);
 }
 

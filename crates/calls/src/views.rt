@@ -1,9 +1,8 @@
-// Block view: refusals 1, 3 and 6. A line shows the part that is handed back and, where that is empty, what `view_refusal` says.
+// Block view: refusals 1, 9, 10, 3 and 6. A line shows the part that is handed back and, where that is empty, what `view_refusal` says.
 use cases::given;
 use cases::show;
 use given::FAR;
-
-const FARTHEST: usize = 0xffff_ffff_ffff_ffff;
+use given::FARTHEST;
 
 pub fn answer(tile: &[u8], width: usize, height: usize, column: usize, row: usize) {
     show::text(b":");
@@ -21,7 +20,7 @@ pub fn place(column: usize, row: usize) {
     show::text(b" of ");
 }
 
-fn viewed(width: usize, height: usize, length: usize, column: usize, row: usize) {
+pub fn viewed(width: usize, height: usize, length: usize, column: usize, row: usize) {
     let mut t = [0u8; 2056];
     given::fill_bytes(&mut t);
     place(column, row);

@@ -8,6 +8,8 @@ use bc4::Checked;
 use bc4::Refusal;
 use given::Sixteen;
 use libc::STDOUT_FILENO;
+use refusal::Side;
+use refusal::Spot;
 
 pub fn text(t: &[u8]) {
     io::write_all(STDOUT_FILENO, t);
@@ -78,17 +80,39 @@ pub fn floats(x: &[f32; 16]) {
     }
 }
 
-// The documents' number, and what comes with it: the index of a NaN, or the field of a DDS file.
+// The documents' number, and what comes with it: a side, where a NaN stands, or the field of a DDS file.
 pub fn refused(q: Refusal) {
     text(b"refused ");
     number(bc4::number(q) as usize);
-    if let Refusal::SampleIsNan(i) = q {
-        text(b" at ");
-        number(i);
+    match q {
+        Refusal::SideIsZero(s) => side(s),
+        Refusal::SideTooLarge(s) => side(s),
+        Refusal::SideNotMultipleOf4(s) => side(s),
+        Refusal::SampleIsNan(i) => at(i),
+        Refusal::TileSampleIsNan(s) => spot(s),
+        Refusal::DdsHeader(_) => field(q),
+        _ => {}
     }
-    if let Refusal::DdsHeader(_) = q {
-        field(q);
+}
+
+fn side(s: Side) {
+    match s {
+        Side::Width => text(b" width"),
+        Side::Height => text(b" height"),
     }
+}
+
+fn at(index: usize) {
+    text(b" at ");
+    number(index);
+}
+
+fn spot(s: Spot) {
+    at(s.index);
+    text(b", row ");
+    number(s.row);
+    text(b", column ");
+    number(s.column);
 }
 
 fn field(q: Refusal) {

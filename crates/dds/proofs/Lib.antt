@@ -1,4 +1,5 @@
 pub mod Headers
 pub mod Files
+pub mod Room
 pub mod ReadBack
 pub mod Determined

@@ -1,7 +1,7 @@
 -- A file that was written is read back as what it was written from.
 use mathlib.Core.Path.{_≡_, refl, ap, _∙_}
 use mathlib.Core.Bool.{Bool, true, false, not, cond, _&&_}
-use mathlib.Core.List.{List}
+use mathlib.Core.List.{List, _++_}
 use Prim.Native.Nat.{ℕ, _+_, _*_, _%_, _^_, _<_}
 use native.Mathlib.Nat.{mod-eq-of-lt}
 use native.Mathlib.Omega.{arith}
@@ -10,13 +10,14 @@ use lib.ListN.{length, getD}
 use borrow.Author.Tests.{le-ltb, eq-eqb}
 use Rattle.fields.specs.Fields.{fieldAt}
 use Rattle.place.specs.Place.{badSize, bc4Size, encodedLength}
-use Rattle.place.proofs.Places.{size-good, good-sides}
+use Rattle.place.proofs.Places.{size-good}
 use Rattle.refusal.specs.declared.Checked.the-variants.{Passed}
 use Rattle.refusal.specs.Refusals.{firstOf}
-use Rattle.refusal.proofs.Firsts.{clear-passed}
+use Rattle.refusal.proofs.Firsts.{first-clear, clear-passed, passed-before}
+use Rattle.refusal.proofs.Sizes.{good-passes}
 use Rattle.dds.specs.declared.Found.the-variants.{File}
 use Rattle.dds.specs.Layout.{headerLength, bc4u, bc4s, dx10, unsignedFormat, signedFormat, headerFields, fileOf, heightIn, widthIn, fourCharactersIn, extended, formatIn, arraySizeIn, bodyAt}
-use Rattle.dds.specs.Checks.{readChecks, isNot}
+use Rattle.dds.specs.Checks.{isNot, sideChecks, bodyChecks, readChecks}
 use Rattle.dds.specs.Calls.{pictureIn, readAnswer, bodyOf}
 use Rattle.dds.proofs.Files.{file-length, file-body, field-reads}
 
@@ -76,10 +77,18 @@ module _ (tile : List ℕ) (width height : ℕ) (snorm : Bool) (good : badSize w
   unfolding bodyAt
   starts = rw plain
 
+  size-back : firstOf (sideChecks file) ≡ Passed
+  size-back = rw (width-back, height-back) (good-passes width height good)
+
+  body-back : firstOf (bodyChecks file) ≡ Passed
+  body-back =
+      let size = file-length tile width height snorm in
+      clear-passed (bodyChecks file) (rw (starts, width-back, height-back) (ap not (eq-eqb (length file) _ (size ∙ ap (λ n. headerLength + n) long))), tt)
+
   passes : firstOf (readChecks file) ≡ Passed
   passes =
-      let sides = good-sides width height good in
       let size = file-length tile width height snorm in
+      let rest = first-clear (sideChecks file ++ bodyChecks file) (passed-before (sideChecks file) (bodyChecks file) size-back ∙ body-back) in
       clear-passed (readChecks file) (
         le-ltb (length file) headerLength (omega arith),
         (
@@ -92,28 +101,7 @@ module _ (tile : List ℕ) (width height : ℕ) (snorm : Bool) (good : badSize w
                 rw characters-back (known-characters snorm),
                 (
                   rw format-back (known-format snorm),
-                  (
-                    rw (reads 7 (lit< tt)),
-                    (
-                      rw (reads 6 (lit< tt)),
-                      (
-                        rw (reads 28 (lit< tt)),
-                        (
-                          rw one-picture,
-                          (
-                            rw width-back (sides .0),
-                            (
-                              rw height-back (sides .1),
-                              (
-                                rw (starts, width-back, height-back) (ap not (eq-eqb (length file) _ (size ∙ ap (λ n. headerLength + n) long))),
-                                tt,
-                              ),
-                            ),
-                          ),
-                        ),
-                      ),
-                    ),
-                  ),
+                  (rw (reads 7 (lit< tt)), (rw (reads 6 (lit< tt)), (rw (reads 28 (lit< tt)), (rw one-picture, rest)))),
                 ),
               ),
             ),

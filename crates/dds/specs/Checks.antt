@@ -4,17 +4,16 @@ use mathlib.Core.List.{List, [], _∷_, _++_}
 use Prim.Native.Nat.{ℕ, _+_, _/_, _%_, _^_}
 use lib.Dec.{ltb, eqb}
 use lib.ListN.{length}
-use Rattle.place.specs.Place.{badSide, bc4Size, encodedLength}
+use Rattle.place.specs.Place.{bc4Size, encodedLength}
 use Rattle.refusal.specs.declared.Refusal.the-variants.{DdsHeader, DdsBody}
 use Rattle.refusal.specs.declared.Field.{Field}
-use Rattle.refusal.specs.declared.Field.the-variants.{Width, Height, Header, Extension, Magic, HeaderSize, FourCharacters, ExtensionFormat, MipCount, Depth, CubeFaces, ArraySize}
-use Rattle.refusal.specs.Refusals.{Check, when, sizeCheck, lengthCheck, roomCheck}
+use Rattle.refusal.specs.declared.Field.the-variants.{Header, Extension, Magic, HeaderSize, FourCharacters, ExtensionFormat, MipCount, Depth, CubeFaces, ArraySize}
+use Rattle.refusal.specs.Refusals.{Check, when, roomCheck, sizeChecks, bytesChecks}
 use Rattle.dds.specs.Layout.{headerLength, extendedLength, headerSize, ddsMagic, bc4u, bc4s, dx10, unsignedFormat, signedFormat, magicIn, headerSizeIn, heightIn, widthIn, depthIn, mipCountIn, fourCharactersIn, caps2In, extended, formatIn, arraySizeIn, bodyAt}
 
--- ---- writing: 1, 3, 4; `long` is the length of the tile, `room` that of the output
+-- ---- writing: 1, 9, 10, 3, 4; `long` is the length of the tile, `room` that of the output
 abbrev pub writeChecks : ℕ → ℕ → ℕ → ℕ → List Check
-writeChecks long width height room =
-    sizeCheck width height ∷ lengthCheck long (encodedLength bc4Size width height) ∷ roomCheck room (headerLength + encodedLength bc4Size width height) ∷ []
+writeChecks long width height room = bytesChecks long width height ++ roomCheck room (headerLength + encodedLength bc4Size width height) ∷ []
 
 -- ---- reading
 abbrev pub wrong : Field → Bool → Check
@@ -43,9 +42,9 @@ pictureChecks file =
     wrong MipCount (ltb 1 (mipCountIn file)) ∷ wrong Depth (ltb 1 (depthIn file)) ∷ wrong CubeFaces (isNot (caps2In file / 2 ^ 10 % 2 ^ 6) 0)
     ∷ wrong ArraySize (isNot (arraySizeIn file) 1) ∷ []
 
--- 1
+-- 1, 9, 10
 abbrev pub sideChecks : List ℕ → List Check
-sideChecks file = wrong Width (badSide (widthIn file)) ∷ wrong Height (badSide (heightIn file)) ∷ []
+sideChecks file = sizeChecks (widthIn file) (heightIn file)
 
 -- 15
 abbrev pub bodyChecks : List ℕ → List Check

@@ -33,17 +33,16 @@ pub enum Found {
 fn write_refusal(long: usize, width: usize, height: usize, room: usize) -> Checked
     ensures { λ r. ⌜ r ≡ firstOf (writeChecks long width height room) ⌝ }
 {
-    if place::bad_size(width, height) {
-        return Checked::Refused(Refusal::Size);
+    let checked = refusal::tile_bytes(long, width, height);
+    match checked {
+        Checked::Refused(q) => Checked::Refused(q),
+        Checked::Passed => {
+            if room < header::LENGTH + long {
+                return Checked::Refused(Refusal::OutputLength);
+            }
+            Checked::Passed
+        }
     }
-    let bytes = place::encoded_length(place::BC4_SIZE, width, height);
-    if long != bytes {
-        return Checked::Refused(Refusal::EncodedLength);
-    }
-    if room < header::LENGTH + bytes {
-        return Checked::Refused(Refusal::OutputLength);
-    }
-    Checked::Passed
 }
 
 // The file of a tile, into the first 128 + width * height / 2 bytes of `out`. Later bytes stay.

@@ -1,4 +1,4 @@
-// What reading a DDS file looks at, number by number: each function makes the checks of one number and asks the next; the last makes those of 1 and 15.
+// What reading a DDS file looks at, number by number: each function makes the checks of one number and asks the next; the last makes those of the size, 1, 9 and 10, and 15.
 ghost use mathlib.Core.Path.{_≡_};
 ghost use mathlib.Core.List.{_++_};
 ghost use Prim.Native.Nat.{_≤_};
@@ -136,21 +136,21 @@ fn pictures(file: &[u8]) -> Checked
     sides(file)
 }
 
-// 1, and 15
+// 1, 9, 10, and 15
 fn sides(file: &[u8]) -> Checked
     requires { ⌜ Whole (now file) ⌝ }
     ensures { λ r. let f = now (file .entry) in ⌜ r ≡ firstOf (sideChecks f ++ bodyChecks f) ⌝ }
 {
     let width = fields::read_u32(file, 16) as usize;
-    if place::bad_side(width) {
-        return wrong(Field::Width);
-    }
     let height = fields::read_u32(file, 12) as usize;
-    if place::bad_side(height) {
-        return wrong(Field::Height);
+    let checked = refusal::size(width, height);
+    match checked {
+        Checked::Refused(q) => Checked::Refused(q),
+        Checked::Passed => {
+            if file.len() != body_at(file) + place::encoded_length(place::BC4_SIZE, width, height) {
+                return Checked::Refused(Refusal::DdsBody);
+            }
+            Checked::Passed
+        }
     }
-    if file.len() != body_at(file) + place::encoded_length(place::BC4_SIZE, width, height) {
-        return Checked::Refused(Refusal::DdsBody);
-    }
-    Checked::Passed
 }

@@ -1,5 +1,5 @@
-// Read: refusals 11 to 14, 1 and 15. A line shows size, format and where the body starts, or the refusal with its field; what `read_refusal` says where it
-// refuses; and the body. The files are made here, not by the writer.
+// Read: refusals 11 to 14, 1, 9, 10 and 15. A line shows size, format and where the body starts, or the refusal with its side or field; what
+// `read_refusal` says where it refuses; and the body. The files are made here, not by the writer.
 use cases::given;
 use cases::show;
 use dds::Found;
@@ -90,7 +90,7 @@ fn change(at: usize, x: u32) {
 }
 
 // The first `length` bytes, with two fields changed or none.
-fn changed(extension: bool, length: usize, at: usize, x: u32, and_at: usize, and_x: u32) {
+pub fn changed(extension: bool, length: usize, at: usize, x: u32, and_at: usize, and_x: u32) {
     let mut file = made(extension);
     set(&mut file, at, x);
     set(&mut file, and_at, and_x);
@@ -215,6 +215,8 @@ fn in_order() {
 fn later_in_order() {
     both(24, 2, 112, 0x400);
     both(112, 0x400, 140, 0);
+    both(140, 0, 16, 0);
+    both(140, 0, 16, 1028);
     both(140, 0, 16, 6);
     both(16, 6, 12, 6);
     changed(true, 163, 12, 6, NONE, 0);

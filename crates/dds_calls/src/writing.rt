@@ -1,4 +1,4 @@
-// Write: refusals 1, 3 and 4. A line shows all of the lent output by its checksum, the bytes past what is written included.
+// Write: refusals 1, 9, 10, 3 and 4. A line shows all of the lent output by its checksum, the bytes past what is written included.
 use cases::given;
 use cases::show;
 use dds::Written;
@@ -34,7 +34,7 @@ fn into(tile: &[u8], width: usize, height: usize, out: &mut [u8], room: usize) {
 }
 
 // A tile of `length` bytes.
-fn wrote(width: usize, height: usize, length: usize, room: usize) {
+pub fn wrote(width: usize, height: usize, length: usize, room: usize) {
     let mut t = [0u8; 2056];
     given::fill_bytes(&mut t);
     let mut out = [0xa5u8; 2184];

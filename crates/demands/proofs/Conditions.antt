@@ -3,8 +3,8 @@ use mathlib.Core.Path.{_≡_, refl, sym, ap, _∙_}
 use mathlib.Core.Bool.{Bool, true, false, not, cond, _&&_, _||_, or-assoc}
 use mathlib.Core.Logic.{_⊎_, inl, inr}
 use mathlib.Core.List.{List, [], _∷_}
-use Prim.Native.Nat.{ℕ, zero, suc, _%_, _<_, _*_, _/_}
-use native.Mathlib.Nat.{le-of-suc-le-suc}
+use Prim.Native.Nat.{ℕ, zero, suc, _+_, _%_, _<_, _*_, _/_}
+use native.Mathlib.Nat.{le-of-suc-le-suc, add-comm, mul-comm, add-mul-div-right, add-mul-mod-self-right, div-eq-of-lt, mod-eq-of-lt, div-add-mod', mod-lt, div-lt-iff-lt-mul}
 use native.Mathlib.Omega.{arith}
 use lib.Dec.{ltb, eqb}
 use lib.ListN.{length}
@@ -14,11 +14,12 @@ use Rattle.floats.proofs.Tests.{clash}
 use Rattle.block.specs.Samples.{pixelAt}
 use Rattle.place.specs.Place.{longestSide, badSide, badSize, along, noBlock, bc4Size, encodedLength}
 use Rattle.refusal.specs.declared.Refusal.{Refusal}
-use Rattle.refusal.specs.declared.Refusal.the-variants.{SampleIsNan}
-use Rattle.refusal.specs.Refusals.{when, nanCheck, firstNan}
+use Rattle.refusal.specs.declared.Refusal.the-variants.{SampleIsNan, TileSampleIsNan}
+use Rattle.refusal.specs.declared.Spot.{Spot}
+use Rattle.refusal.specs.Refusals.{when, firstNan, nanCheck, spotOf, tileNanCheck}
 use Rattle.bc4.specs.Word.{wordOf}
 use Rattle.demands.specs.Exactly.{When, Iff}
-use Rattle.demands.specs.Conditions.{BadSide, Missing, BadWord, LowestNan, WhenNan}
+use Rattle.demands.specs.Conditions.{BadSide, Missing, BadWord, LowestNan, WhenNan, LowestTileNan, WhenTileNan}
 use Rattle.demands.proofs.Refusing.{Same}
 
 pub when-same : {refusal : Refusal} {t : Bool} {P : Type 0} → Iff (t ≡ true) P → Same (when refusal t) (When refusal P)
@@ -101,3 +102,27 @@ nan-same s q = (
   λ x. let h = ltb-true _ _ (x .1) in (firstNan s, x .0, record { within = h; there = nan-there s h; none-lower = none-before s }),
   λ y. let found = nan-found s (y .0) (y .2) in let h = y .2 .within in (y .1 ∙ ap SampleIsNan (sym found), lt-ltb (firstNan s) (length s) (omega arith)),
 )
+
+-- ---- on a tile of width times height samples: the row and the column that go with an index are one
+module _ (s : List Float) (width height : ℕ) (some : 0 < width) (count : length s ≡ width * height) where
+  same-spot : (spot : Spot) → LowestTileNan s width height spot → spotOf width (firstNan s) ≡ spot
+  same-spot spot w =
+      let here : firstNan s ≡ spot .column + spot .row * width = nan-found s (spot .index) (w .lowest) ∙ w .place ∙ add-comm (spot .row * width) (spot .column) in
+      let row : firstNan s / width ≡ spot .row = rw (here, add-mul-div-right (spot .column) (spot .row) some, div-eq-of-lt (w .column-within)) (omega arith) in
+      let column : firstNan s % width ≡ spot .column = rw (here, add-mul-mod-self-right (spot .column) (spot .row) width) (mod-eq-of-lt (w .column-within)) in
+      rw (row, column, nan-found s (spot .index) (w .lowest))
+
+  there : firstNan s < length s → LowestTileNan s width height (spotOf width (firstNan s))
+  there h = record {
+    lowest = record { within = h; there = nan-there s h; none-lower = none-before s };
+    place = sym (div-add-mod' (firstNan s) width);
+    column-within = mod-lt (firstNan s) some;
+    row-within = div-lt-iff-lt-mul some .1 (rw (mul-comm height width, ← count) h);
+  }
+
+  pub tile-nan-same : Same (tileNanCheck s width) (WhenTileNan s width height)
+  tile-nan-same q = (
+    λ x. (spotOf width (firstNan s), x .0, there (ltb-true _ _ (x .1))),
+    λ y. let found = nan-found s (y .0 .index) (y .2 .lowest) in let h = y .2 .lowest .within in
+        (y .1 ∙ ap TileSampleIsNan (sym (same-spot (y .0) (y .2))), lt-ltb (firstNan s) (length s) (omega arith)),
+  )

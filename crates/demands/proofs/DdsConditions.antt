@@ -20,8 +20,9 @@ use Rattle.dds.specs.Checks.{isNot, writeChecks, readChecks}
 use Rattle.demands.specs.Exactly.{Iff}
 use Rattle.demands.specs.Conditions.{field, four, NoneOf, CubeFace, BadBody}
 use Rattle.demands.specs.Demand1.{WriteRefuses, ReadRefuses}
-use Rattle.demands.proofs.Refusing.{Alike, end, then}
-use Rattle.demands.proofs.Conditions.{when-same, and-iff, equal-iff, unequal-iff, below-iff, side-iff, half, size-iff, encoded-iff}
+use Rattle.demands.proofs.Refusing.{Alike, end, then, together}
+use Rattle.demands.proofs.Conditions.{when-same, and-iff, equal-iff, unequal-iff, below-iff, half}
+use Rattle.demands.proofs.Sizes.{size-alike, bytes-alike}
 
 -- ---- none of two, none of three
 none-two : (x a b : ℕ) → Iff (isNot x a && isNot x b ≡ true) (NoneOf x (a ∷ b ∷ []))
@@ -106,16 +107,11 @@ module _ (file : List ℕ) where
       (then (when-same (below-iff 1 _))
       (then (when-same (below-iff 1 _))
       (then (when-same (cube-iff (field file 112)))
-      (then (when-same array-iff)
-      (then (when-same (side-iff (field file 16)))
-      (then (when-same (side-iff (field file 12)))
-      (then (when-same body-iff) end))))))))))))
+      (then (when-same array-iff) (together (size-alike (field file 16) (field file 12)) (then (when-same body-iff) end)))))))))))
 
 room-iff : (room width height : ℕ) → Iff (ltb room (headerLength + encodedLength bc4Size width height) ≡ true) (room < 128 + width * height / 2)
 room-iff room width height = rw (half width height) (below-iff room (128 + width * height / 2))
 
 pub write-alike : (tile : List ℕ) (width height : ℕ) (out : List ℕ) → Alike (writeChecks (length tile) width height (length out)) (WriteRefuses tile width height out)
 write-alike tile width height out =
-    then (when-same (size-iff width height))
-    (then (when-same (encoded-iff (length tile) width height))
-    (then (when-same (room-iff (length out) width height)) end))
+    together (bytes-alike tile width height) (then (when-same (room-iff (length out) width height)) end)

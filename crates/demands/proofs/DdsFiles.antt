@@ -17,14 +17,15 @@ use Rattle.place.proofs.Places.{size-small}
 use Rattle.refusal.specs.declared.Checked.{Checked}
 use Rattle.refusal.specs.declared.Checked.the-variants.{Passed, Refused}
 use Rattle.refusal.specs.Refusals.{firstOf, answered}
-use Rattle.refusal.proofs.Firsts.{first-clear, same-of}
+use Rattle.refusal.proofs.Firsts.{first-clear, both-passed, same-of}
 use Rattle.dds.specs.declared.Written.the-variants.{Bytes, Refused as NotWritten}
 use Rattle.dds.specs.declared.Found.the-variants.{File, Refused as NotFound}
 use Rattle.dds.specs.declared.Picture.{Picture}
 use Rattle.dds.specs.Layout.{headerLength, bc4s, dx10, unsignedFormat, signedFormat, headerFields, headerField, fileOf, widthIn, heightIn, extended, formatIn, arraySizeIn, bodyAt}
-use Rattle.dds.specs.Checks.{writeChecks, readChecks}
+use Rattle.dds.specs.Checks.{writeChecks, cutChecks, markChecks, formatChecks, pictureChecks, sideChecks, bodyChecks, readChecks}
 use Rattle.dds.specs.Calls.{writeAnswer, pictureIn, readAnswer, bodyOf}
 use Rattle.dds.proofs.Files.{file-length, file-body, field-stands, field-reads}
+use Rattle.dds.proofs.Room.{room}
 use Rattle.dds.proofs.ReadBack.{width-back, height-back, read-back}
 use Rattle.demands.specs.Exactly.{Iff}
 use Rattle.demands.specs.Conditions.{field, four}
@@ -37,16 +38,16 @@ record Accepted (tile : List ℕ) (width height n : ℕ) : Type 0 where
   long : length tile ≡ encodedLength bc4Size width height
   count : n ≡ 128 + length tile
 
-accepted : (tile : List ℕ) (width height room n : ℕ) → writeAnswer (length tile) width height room ≡ Bytes n → Accepted tile width height n
-accepted tile width height room n e = go (firstOf (writeChecks (length tile) width height room)) refl e
+accepted : (tile : List ℕ) (width height most n : ℕ) → writeAnswer (length tile) width height most ≡ Bytes n → Accepted tile width height n
+accepted tile width height most n e = go (firstOf (writeChecks (length tile) width height most)) refl e
   where
-    go : (c : Checked) → firstOf (writeChecks (length tile) width height room) ≡ c → answered NotWritten (Bytes (headerLength + encodedLength bc4Size width height)) c ≡ Bytes n
+    go : (c : Checked) → firstOf (writeChecks (length tile) width height most) ≡ c → answered NotWritten (Bytes (headerLength + encodedLength bc4Size width height)) c ≡ Bytes n
         → Accepted tile width height n
     go Passed p e =
-        let clear = first-clear (writeChecks (length tile) width height room) p in
-        let long : length tile ≡ encodedLength bc4Size width height = same-of _ _ (clear .1 .0) in
+        let r = room (length tile) width height most p in
         let count : headerLength + encodedLength bc4Size width height ≡ n = cc in
-        record { good = clear .0; long = long; count = omega arith }
+        let long = r .tile in
+        record { good = r .good; long = long; count = omega arith }
     go (Refused q) p e = absurd (let z : _≡_ {A = ℕ} 0 1 = cc in omega arith)
 
 -- ---- zero elsewhere
@@ -172,8 +173,10 @@ module _ (file : List ℕ) where
       go : (c : Checked) → firstOf (readChecks file) ≡ c → answered NotFound (File (pictureIn file)) c ≡ File p → Says file p
       go Passed passed e =
           let same : pictureIn file ≡ p = cc in
-          let clear = first-clear (readChecks file) passed in
-          let long : length file ≡ bodyAt file + encodedLength bc4Size (widthIn file) (heightIn file) = same-of _ _ (clear .1 .1 .1 .1 .1 .1 .1 .1 .1 .1 .1 .1 .0) in
+          let before = cutChecks file ++ markChecks file ++ formatChecks file ++ pictureChecks file in
+          let sides = both-passed before (sideChecks file ++ bodyChecks file) passed .1 in
+          let body = both-passed (sideChecks file) (bodyChecks file) sides .1 in
+          let long : length file ≡ bodyAt file + encodedLength bc4Size (widthIn file) (heightIn file) = same-of _ _ (first-clear (bodyChecks file) body .0) in
           rw (← same)
           (record {
             width = refl;

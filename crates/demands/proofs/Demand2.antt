@@ -3,11 +3,10 @@ use mathlib.Core.Path.{_≡_, refl, sym, ap, _∙_, subst}
 use mathlib.Core.Bool.{false}
 use mathlib.Core.Logic.{inl, inr}
 use mathlib.Core.List.{List, _++_}
-use Prim.Native.Nat.{ℕ, _<_, _≤_}
+use Prim.Native.Nat.{ℕ, _<_}
 use native.Mathlib.Omega.{arith}
 use lib.ListN.{length, take, drop}
 use lib.Ieee.{Float, isNan}
-use borrow.Author.Tests.{ltb-false}
 use Rattle.floats.proofs.Tests.{clash}
 use Rattle.index_list.specs.Layout.{fromBytes}
 use Rattle.block.specs.Samples.{pixelAt}
@@ -22,9 +21,10 @@ use Rattle.place.proofs.Samples.{blockOf-length, blockOf-real}
 use Rattle.refusal.specs.declared.Checked.the-variants.{Passed}
 use Rattle.bc4.specs.declared.Encoded.the-variants.{Block}
 use Rattle.bc4.specs.declared.Tiled.the-variants.{Written, Refused as NotTiled}
-use Rattle.refusal.specs.Refusals.{firstOf, firstNan, encodeChecks, tileChecks}
+use Rattle.refusal.specs.Refusals.{firstOf, encodeChecks, tileChecks}
 use Rattle.bc4.specs.Calls.{ofTiled, encodeAnswer}
-use Rattle.refusal.proofs.Firsts.{refusal-of, Clear, first-clear, same-of}
+use Rattle.refusal.proofs.Firsts.{refusal-of}
+use Rattle.refusal.proofs.Tiles.{Samples, tile-passed}
 use Rattle.demands.specs.Demand2.{Demand2}
 use Rattle.demands.proofs.Conditions.{none-before}
 use Rattle.demands.proofs.Demand1.{encode-exactly}
@@ -43,18 +43,18 @@ accepted s long real =
 
 module _ (s : List Float) (width height : ℕ) (o : Options) (out : List ℕ) (passed : firstOf (tileChecks s width height (length out)) ≡ Passed) (column row : ℕ) (h : column < along width)
     (k : row < along height) where
-  clear : Clear (tileChecks s width height (length out))
-  clear = first-clear (tileChecks s width height (length out)) passed
+  tile : Samples s width height (length out)
+  tile = tile-passed s width height (length out) passed
 
   block-accepted : firstOf (encodeChecks (blockOf s width column row)) ≡ Passed
   block-accepted =
       accepted (blockOf s width column row) (blockOf-length s width column row)
-      (blockOf-real s width height column row (same-of _ _ (clear .1 .0)) h k (λ i l. let free : length s ≤ firstNan s = ltb-false _ _ (clear .1 .1 .1 .0) in none-before s i (omega arith)))
+      (blockOf-real s width height column row (tile .count) h k (λ i l. let free = tile .real in none-before s i (omega arith)))
 
   block-there : take bc4Size (drop (blockAt bc4Size width column row) (tileBytes s width height o ++ drop (encodedLength bc4Size width height) out)) ≡ blockBytes s width o column row
   block-there =
-      let long = all-length (blockBytes s width o) bc4Size width (λ c r. refl) height ∙ rows-length width height (clear .0) bc4Size in
-      in-first (tileBytes s width height o) (drop (encodedLength bc4Size width height) out) bc4Size (blockAt bc4Size width column row) (rw long (block-within width height (clear .0) bc4Size column row h k))
+      let long = all-length (blockBytes s width o) bc4Size width (λ c r. refl) height ∙ rows-length width height (tile .good) bc4Size in
+      in-first (tileBytes s width height o) (drop (encodedLength bc4Size width height) out) bc4Size (blockAt bc4Size width column row) (rw long (block-within width height (tile .good) bc4Size column row h k))
       ∙ block-stands (blockBytes s width o) bc4Size width (λ c r. refl) height column row h k
 
 pub demand-2 : Demand2

@@ -2,6 +2,7 @@ pub mod Flat
 pub mod WorkedValues
 pub mod Refusing
 pub mod Conditions
+pub mod Sizes
 pub mod DdsConditions
 pub mod Demand1
 pub mod DdsFiles

@@ -8,13 +8,15 @@ use lib.ListN.{length}
 use lib.Ieee.{Float, isNan}
 use Rattle.block.specs.Samples.{pixelAt}
 use Rattle.fields.specs.Fields.{fieldAt}
-use Rattle.refusal.specs.declared.Refusal.the-variants.{SampleIsNan, DdsHeader}
+use Rattle.refusal.specs.declared.Refusal.the-variants.{SideIsZero, SampleIsNan, TileSampleIsNan, SideTooLarge, SideNotMultipleOf4, DdsHeader}
+use Rattle.refusal.specs.declared.Side.the-variants.{Width, Height}
+use Rattle.refusal.specs.declared.Spot.{Spot}
 use Rattle.refusal.specs.declared.Field.{Field}
 use Rattle.dds.specs.Layout.{dx10}
 use Rattle.demands.specs.Exactly.{Condition, When}
 
 -- ---- document 01
--- 1
+-- 1, before document 02 told its three parts apart
 abbrev pub BadSide : ℕ → Type 0
 BadSide n = (n ≡ 0) ⊎ (1024 < n) ⊎ (n % 4 ≡ 0 → ⊥)
 
@@ -35,6 +37,27 @@ BadWord quality last = (2 < quality) ⊎ (last ≡ 0 → ⊥)
 abbrev pub WhenNan : List Float → Condition
 WhenNan samples q = (i : ℕ) × (q ≡ SampleIsNan i) × LowestNan samples i
 
+-- ---- document 02, 2/12: what is wrong with a size
+abbrev pub NoMultipleOf4 : ℕ → Type 0
+NoMultipleOf4 n = (k : ℕ) → n ≡ 4 * k → ⊥
+
+-- 1, 9, 10, each with the side, the width before the height: wherever 1 stood
+abbrev pub SizeRefuses : ℕ → ℕ → List Condition
+SizeRefuses width height =
+    When (SideIsZero Width) (width ≡ 0) ∷ When (SideIsZero Height) (height ≡ 0)
+    ∷ When (SideTooLarge Width) (1024 < width) ∷ When (SideTooLarge Height) (1024 < height)
+    ∷ When (SideNotMultipleOf4 Width) (NoMultipleOf4 width) ∷ When (SideNotMultipleOf4 Height) (NoMultipleOf4 height) ∷ []
+
+-- 7 on a tile: the lowest index, and where it stands
+pub record LowestTileNan (samples : List Float) (width height : ℕ) (spot : Spot) : Type 0 where
+  pub lowest : LowestNan samples (spot .index)
+  pub place : spot .index ≡ spot .row * width + spot .column
+  pub column-within : spot .column < width
+  pub row-within : spot .row < height
+
+abbrev pub WhenTileNan : List Float → ℕ → ℕ → Condition
+WhenTileNan samples width height q = (spot : Spot) × (q ≡ TileSampleIsNan spot) × LowestTileNan samples width height spot
+
 -- ---- document 02, 1/12: DDS files
 -- four bytes of a file as a number, and its four characters
 abbrev pub field : List ℕ → ℕ → ℕ
@@ -43,7 +66,7 @@ field = fieldAt 4
 abbrev pub four : List ℕ → ℕ
 four file = field file 84
 
--- 11 to 14 and 1, with the field
+-- 11 to 14, with the field
 abbrev pub WhenWrong : Field → Type 0 → Condition
 WhenWrong f = When (DdsHeader f)
 

@@ -3,15 +3,14 @@
 -- without `requires` says.
 use mathlib.Core.Path.{_≡_}
 use mathlib.Core.Bool.{Bool, true}
-use mathlib.Core.Logic.{_⊎_}
 use mathlib.Core.List.{List, [], _∷_, _++_}
 use Prim.Native.Nat.{ℕ, _+_, _*_, _/_, _<_}
 use lib.ListN.{length}
 use lib.Ieee.{Float}
 use Rattle.options.specs.declared.Options.{Options}
 use Rattle.refusal.specs.declared.Refusal.{Refusal}
-use Rattle.refusal.specs.declared.Refusal.the-variants.{Size, SampleCount, EncodedLength, OutputLength, DitheredResend, NoSuchBlock, WordMalformed, DdsBody}
-use Rattle.refusal.specs.declared.Field.the-variants.{Width, Height, Header, Extension, Magic, HeaderSize, FourCharacters, ExtensionFormat, MipCount, Depth, CubeFaces, ArraySize}
+use Rattle.refusal.specs.declared.Refusal.the-variants.{SampleCount, EncodedLength, OutputLength, DitheredResend, NoSuchBlock, WordMalformed, DdsBody}
+use Rattle.refusal.specs.declared.Field.the-variants.{Header, Extension, Magic, HeaderSize, FourCharacters, ExtensionFormat, MipCount, Depth, CubeFaces, ArraySize}
 use Rattle.refusal.specs.declared.Checked.the-variants.{Refused}
 use Rattle.bc4.specs.declared.Tiled.the-variants.{Refused as NotTiled}
 use Rattle.dds.specs.declared.Written.the-variants.{Refused as NotWritten}
@@ -22,7 +21,7 @@ use Rattle.dds.specs.Layout.{ddsMagic, bc4u, bc4s, dx10}
 use Rattle.dds.specs.Checks.{readChecks}
 use Rattle.dds.specs.Calls.{ofWritten, ofFound, writeAnswer, fileAfter, readAnswer, bodyOf}
 use Rattle.demands.specs.Exactly.{Condition, When, WhenUnequal, Exactly, InNumberOrder}
-use Rattle.demands.specs.Conditions.{BadSide, Missing, BadWord, WhenNan, field, four, WhenWrong, NoneOf, CubeFace, BadBody}
+use Rattle.demands.specs.Conditions.{Missing, BadWord, WhenNan, SizeRefuses, WhenTileNan, field, four, WhenWrong, NoneOf, CubeFace, BadBody}
 
 -- ---- which conditions each call looks at, and in which order. Encode: 2, 7
 abbrev pub EncodeRefuses : List Float → List Condition
@@ -41,29 +40,27 @@ abbrev pub ResendRefuses : List Float → List ℕ → Options → List Conditio
 ResendRefuses samples held o =
     WhenUnequal SampleCount (length samples) 16 ∷ WhenUnequal EncodedLength (length held) 8 ∷ When DitheredResend (o .dither ≡ true) ∷ WhenNan samples ∷ []
 
--- encode tile: 1, 2, 4, 7
+-- encode tile: 1, 9, 10, 2, 4, 7
 abbrev pub TileRefuses : List Float → ℕ → ℕ → List ℕ → List Condition
 TileRefuses samples width height out =
-    When Size (BadSide width ⊎ BadSide height) ∷ WhenUnequal SampleCount (length samples) (width * height)
-    ∷ When OutputLength (length out < width * height / 2) ∷ WhenNan samples ∷ []
+    SizeRefuses width height ++ WhenUnequal SampleCount (length samples) (width * height) ∷ When OutputLength (length out < width * height / 2)
+    ∷ WhenTileNan samples width height ∷ []
 
--- view: 1, 3, 6
+-- view: 1, 9, 10, 3, 6
 abbrev pub ViewRefuses : List ℕ → ℕ → ℕ → ℕ → ℕ → List Condition
 ViewRefuses tile width height column row =
-    When Size (BadSide width ⊎ BadSide height) ∷ WhenUnequal EncodedLength (length tile) (width * height / 2)
-    ∷ When NoSuchBlock (Missing width height column row) ∷ []
+    SizeRefuses width height ++ WhenUnequal EncodedLength (length tile) (width * height / 2) ∷ When NoSuchBlock (Missing width height column row) ∷ []
 
 -- with a word for the options: what the call refuses, and then 8
 abbrev pub ThenBadWord : List Condition → ℕ → ℕ → List Condition
 ThenBadWord conditions quality last = conditions ++ When WordMalformed (BadWord quality last) ∷ []
 
--- write a DDS file: 1, 3, 4
+-- write a DDS file: 1, 9, 10, 3, 4
 abbrev pub WriteRefuses : List ℕ → ℕ → ℕ → List ℕ → List Condition
 WriteRefuses tile width height out =
-    When Size (BadSide width ⊎ BadSide height) ∷ WhenUnequal EncodedLength (length tile) (width * height / 2)
-    ∷ When OutputLength (length out < 128 + width * height / 2) ∷ []
+    SizeRefuses width height ++ WhenUnequal EncodedLength (length tile) (width * height / 2) ∷ When OutputLength (length out < 128 + width * height / 2) ∷ []
 
--- read one: 11, 12, 13, 14, 1, 15, with the field that is wrong; inside a number fields come in the order of the document's sentence
+-- read one: 11, 12, 13, 14, with the field that is wrong, 1, 9, 10, 15; inside a number fields come in the order of the document's sentence
 abbrev pub ReadRefuses : List ℕ → List Condition
 ReadRefuses file =
     WhenWrong Header (length file < 128) ∷ WhenWrong Extension ((four file ≡ dx10) × (length file < 148))
@@ -71,17 +68,18 @@ ReadRefuses file =
     ∷ WhenWrong FourCharacters (NoneOf (four file) (bc4u ∷ bc4s ∷ dx10 ∷ [])) ∷ WhenWrong ExtensionFormat ((four file ≡ dx10) × NoneOf (field file 128) (80 ∷ 81 ∷ []))
     ∷ WhenWrong MipCount (1 < field file 28) ∷ WhenWrong Depth (1 < field file 24) ∷ WhenWrong CubeFaces (CubeFace (field file 112))
     ∷ WhenWrong ArraySize ((four file ≡ dx10) × (field file 140 ≡ 1 → ⊥))
-    ∷ WhenWrong Width (BadSide (field file 16)) ∷ WhenWrong Height (BadSide (field file 12)) ∷ When DdsBody (BadBody file) ∷ []
+    ∷ (SizeRefuses (field file 16) (field file 12) ++ When DdsBody (BadBody file) ∷ [])
 
 pub record Demand1 : Type 0 where
   pub encode : (samples : List Float) (o : Options) → InNumberOrder (ofEncoded (encodeAnswer samples o)) (EncodeRefuses samples)
   pub decode : (encoded : List ℕ) → InNumberOrder (firstOf (decodeChecks encoded)) (DecodeRefuses encoded)
   pub error : (samples : List Float) (encoded : List ℕ) (snorm : Bool) → InNumberOrder (ofScored (errorAnswer samples encoded snorm)) (ErrorRefuses samples encoded)
   pub resend : (samples : List Float) (held : List ℕ) (o : Options) → InNumberOrder (ofResent (resendAnswer samples held o)) (ResendRefuses samples held o)
+  -- where there is a size, 9 and 10 come straight after 1, and so before 2
   pub tile : (samples : List Float) (width height : ℕ) (out : List ℕ)
-      → InNumberOrder (ofTiled (tileAnswer samples width height (length out))) (TileRefuses samples width height out)
+      → Exactly (ofTiled (tileAnswer samples width height (length out))) (TileRefuses samples width height out)
   pub view : (tile : List ℕ) (width height column row : ℕ)
-      → InNumberOrder (firstOf (viewChecks (length tile) width height column row)) (ViewRefuses tile width height column row)
+      → Exactly (firstOf (viewChecks (length tile) width height column row)) (ViewRefuses tile width height column row)
   -- the calls that take a word, for every four bytes; the program has the first of them
   pub encode-word : (samples : List Float) (flags limit quality last : ℕ)
       → InNumberOrder (ofEncoded (encodeByWord samples (wordOf flags limit quality last))) (ThenBadWord (EncodeRefuses samples) quality last)
@@ -89,11 +87,11 @@ pub record Demand1 : Type 0 where
       → let w = wordOf flags limit quality last in
       InNumberOrder (ofResent (resendByWord samples held w)) (ThenBadWord (ResendRefuses samples held (w .options)) quality last)
   pub tile-word : (samples : List Float) (width height : ℕ) (out : List ℕ) (flags limit quality last : ℕ)
-      → InNumberOrder (ofTiled (tileByWord samples width height (wordOf flags limit quality last) (length out)))
+      → Exactly (ofTiled (tileByWord samples width height (wordOf flags limit quality last) (length out)))
       (ThenBadWord (TileRefuses samples width height out) quality last)
-  -- DDS files; the numbers of a read are not in order
+  -- DDS files
   pub write-dds : (tile : List ℕ) (width height : ℕ) (out : List ℕ)
-      → InNumberOrder (ofWritten (writeAnswer (length tile) width height (length out))) (WriteRefuses tile width height out)
+      → Exactly (ofWritten (writeAnswer (length tile) width height (length out))) (WriteRefuses tile width height out)
   pub read-dds : (file : List ℕ) → Exactly (ofFound (readAnswer file)) (ReadRefuses file)
   -- the companion of a read tells the same refusal
   pub read-dds-refusal : (file : List ℕ) → firstOf (readChecks file) ≡ ofFound (readAnswer file)

@@ -1,5 +1,6 @@
 pub mod Exactly
 pub mod Conditions
+pub mod Sizes
 pub mod Demand1
 pub mod Demand2
 pub mod Demand3

@@ -19,12 +19,12 @@ use bc4::word::Word;
 use dds::Found;
 use dds::Written;
 
-// Major, minor and patch number, a byte each: 2.1.0.
+// Major, minor and patch number, a byte each: 3.0.0.
 #[no_mangle]
 pub extern "C" fn bc4_version() -> u32
-    ensures { λ r. ⌜ r ≡ 0x020100 ⌝ }
+    ensures { λ r. ⌜ r ≡ 0x030000 ⌝ }
 {
-    0x020100
+    0x030000
 }
 
 fn word_in(options: u32) -> Word

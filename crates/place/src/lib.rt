@@ -4,7 +4,7 @@ ghost use Prim.Native.Nat.{_+_, _*_, _<_, _≤_};
 ghost use lib.ListN.{length};
 ghost use Rattle.place.specs.Place.{longestSide, badSide, badSize, along, encodedLength, blockAt, blockOf};
 
-const LONGEST_SIDE: usize = 1024;
+pub const LONGEST_SIDE: usize = 1024;
 
 // The bytes of a BC4 block.
 pub const BC4_SIZE: usize = 8;

@@ -77,6 +77,20 @@ first-append (c ∷ cs) ds = go (c .applies) (first-append cs ds)
     go true rest = refl
     go false rest = rest
 
+module _ (cs ds : List Check) where
+  pub refused-before : {q : Refusal} → firstOf cs ≡ Refused q → firstOf (cs ++ ds) ≡ Refused q
+  refused-before e = rw (first-append cs ds, e)
+
+  pub passed-before : firstOf cs ≡ Passed → firstOf (cs ++ ds) ≡ firstOf ds
+  passed-before e = rw (first-append cs ds, e)
+
+  pub both-passed : firstOf (cs ++ ds) ≡ Passed → (firstOf cs ≡ Passed) × (firstOf ds ≡ Passed)
+  both-passed e = go (firstOf cs) refl (rw (first-append cs ds) at e)
+    where
+      go : (c : Checked) → firstOf cs ≡ c → answered Refused (firstOf ds) c ≡ Passed → (firstOf cs ≡ Passed) × (firstOf ds ≡ Passed)
+      go Passed p e = (p, e)
+      go (Refused q) p e = absurd (apart e)
+
 -- A malformed word is one check more, after all others.
 pub word-last : (cs : List Check) (malformed : Bool) → firstOf (andWord cs malformed) ≡ cond malformed (Refused (orMalformed (firstOf cs))) (firstOf cs)
 unfolding firstOf

@@ -1,4 +1,6 @@
 pub mod Firsts
 pub mod Nans
+pub mod Sizes
+pub mod Tiles
 pub mod Views
 pub mod Outcomes

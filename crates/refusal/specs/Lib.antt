@@ -1,2 +1,2 @@
-pub mod Fields
+pub mod Names
 pub mod Refusals

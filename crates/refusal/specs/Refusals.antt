@@ -1,38 +1,47 @@
 -- Document 01, "Calls and numbers", and document 02: the refusals, their numbers, and what each call checks, as a list: the first check of it that applies is the answer.
--- The document's own lists are in number order; nothing here rests on that, and `demands` shows it.
+-- Lists of document 01 without a size are in number order; nothing here rests on that, and `demands` shows it.
 use mathlib.Core.Bool.{Bool, not, cond}
 use mathlib.Core.List.{List, [], _∷_, _++_}
-use Prim.Native.Nat.{ℕ, suc, _*_}
+use Prim.Native.Nat.{ℕ, suc, _*_, _/_, _%_}
 use lib.Dec.{ltb, eqb}
 use lib.ListN.{length}
 use lib.Ieee.{Float, isNan}
 use Rattle.options.specs.declared.Options.{Options}
-use Rattle.place.specs.Place.{badSize, noBlock, bc4Size, encodedLength}
+use Rattle.place.specs.Place.{longestSide, noBlock, bc4Size, encodedLength}
 use Rattle.refusal.specs.declared.Refusal.{Refusal}
-use Rattle.refusal.specs.declared.Refusal.the-variants.{Size, SampleCount, EncodedLength, OutputLength, DitheredResend, NoSuchBlock, SampleIsNan, WordMalformed, DdsHeader, DdsBody}
+use Rattle.refusal.specs.declared.Refusal.the-variants.{SideIsZero, SampleCount, EncodedLength, OutputLength, DitheredResend, NoSuchBlock, SampleIsNan, TileSampleIsNan, WordMalformed, SideTooLarge, SideNotMultipleOf4, DdsHeader, DdsBody}
+use Rattle.refusal.specs.declared.Side.the-variants.{Width, Height}
+use Rattle.refusal.specs.declared.Spot.{Spot}
 use Rattle.refusal.specs.declared.Checked.{Checked}
 use Rattle.refusal.specs.declared.Checked.the-variants.{Passed, Refused}
-use Rattle.refusal.specs.Fields.{numberFor, whatOf}
+use Rattle.refusal.specs.Names.{numberFor, whatSide, whatOf}
 
 -- the document's number of a refusal
 abbrev pub numberOf : Refusal → ℕ
-numberOf Size = 1
+numberOf (SideIsZero side) = 1
 numberOf SampleCount = 2
 numberOf EncodedLength = 3
 numberOf OutputLength = 4
 numberOf DitheredResend = 5
 numberOf NoSuchBlock = 6
 numberOf (SampleIsNan i) = 7
+numberOf (TileSampleIsNan spot) = 7
 numberOf WordMalformed = 8
+numberOf (SideTooLarge side) = 9
+numberOf (SideNotMultipleOf4 side) = 10
 numberOf (DdsHeader field) = numberFor field
 numberOf DdsBody = 15
 
 -- What a refusal brings with it, as four numbers: what, index, row and column. Where it has something to say all four are written, 0 for what it says
--- nothing about; where it has not they stay as they were. Refusal 7 says the lowest index, those of a DDS file's headers the field.
+-- nothing about; where it has not they stay as they were. Refusals 1, 9 and 10 say the side; 7 says the lowest index, of a tile with its row and column;
+-- those of a DDS file's headers say the field.
 abbrev pub detailOf : Refusal → List ℕ → List ℕ
+detailOf (SideIsZero side) before = whatSide side ∷ 0 ∷ 0 ∷ 0 ∷ []
+detailOf (SideTooLarge side) before = whatSide side ∷ 0 ∷ 0 ∷ 0 ∷ []
+detailOf (SideNotMultipleOf4 side) before = whatSide side ∷ 0 ∷ 0 ∷ 0 ∷ []
 detailOf (SampleIsNan i) before = 0 ∷ i ∷ 0 ∷ 0 ∷ []
+detailOf (TileSampleIsNan spot) before = 0 ∷ spot .index ∷ spot .row ∷ spot .column ∷ []
 detailOf (DdsHeader field) before = whatOf field ∷ 0 ∷ 0 ∷ 0 ∷ []
-detailOf Size before = before
 detailOf SampleCount before = before
 detailOf EncodedLength before = before
 detailOf OutputLength before = before
@@ -65,9 +74,6 @@ unfoldable pub firstNan : List Float → ℕ
 firstNan [] = 0
 firstNan (x ∷ s) = cond (isNan x) 0 (suc (firstNan s))
 
-abbrev pub sizeCheck : ℕ → ℕ → Check
-sizeCheck width height = when Size (badSize width height)
-
 abbrev pub countCheck : List Float → ℕ → Check
 countCheck samples n = when SampleCount (not (eqb (length samples) n))
 
@@ -86,6 +92,24 @@ placeCheck width height column row = when NoSuchBlock (noBlock width height colu
 abbrev pub nanCheck : List Float → Check
 nanCheck samples = when (SampleIsNan (firstNan samples)) (ltb (firstNan samples) (length samples))
 
+-- where a sample of a tile stands
+abbrev pub spotOf : ℕ → ℕ → Spot
+spotOf width i = record { index = i; row = i / width; column = i % width }
+
+abbrev pub tileNanCheck : List Float → ℕ → Check
+tileNanCheck samples width = when (TileSampleIsNan (spotOf width (firstNan samples))) (ltb (firstNan samples) (length samples))
+
+-- ---- the checks of a size, which every call that has one makes: by number, and of one number the width before the height
+unfoldable pub sizeChecks : ℕ → ℕ → List Check
+sizeChecks width height =
+    when (SideIsZero Width) (eqb width 0) ∷ when (SideIsZero Height) (eqb height 0)
+    ∷ when (SideTooLarge Width) (ltb longestSide width) ∷ when (SideTooLarge Height) (ltb longestSide height)
+    ∷ when (SideNotMultipleOf4 Width) (not (eqb (width % 4) 0)) ∷ when (SideNotMultipleOf4 Height) (not (eqb (height % 4) 0)) ∷ []
+
+-- of the bytes of a tile: its size, and then their count
+abbrev pub bytesChecks : ℕ → ℕ → ℕ → List Check
+bytesChecks long width height = sizeChecks width height ++ lengthCheck long (encodedLength bc4Size width height) ∷ []
+
 -- ---- the checks of each call
 abbrev pub encodeChecks : List Float → List Check
 encodeChecks samples = countCheck samples 16 ∷ nanCheck samples ∷ []
@@ -102,12 +126,11 @@ resendChecks samples held o = countCheck samples 16 ∷ lengthCheck (length held
 -- `room` is the length of the output
 abbrev pub tileChecks : List Float → ℕ → ℕ → ℕ → List Check
 tileChecks samples width height room =
-    sizeCheck width height ∷ countCheck samples (width * height) ∷ roomCheck room (encodedLength bc4Size width height) ∷ nanCheck samples ∷ []
+    sizeChecks width height ++ countCheck samples (width * height) ∷ roomCheck room (encodedLength bc4Size width height) ∷ tileNanCheck samples width ∷ []
 
 -- `long` is the length of the tile
 abbrev pub viewChecks : ℕ → ℕ → ℕ → ℕ → ℕ → List Check
-viewChecks long width height column row =
-    sizeCheck width height ∷ lengthCheck long (encodedLength bc4Size width height) ∷ placeCheck width height column row ∷ []
+viewChecks long width height column row = bytesChecks long width height ++ placeCheck width height column row ∷ []
 
 -- a call's checks, and after all of them that of its options word
 abbrev pub andWord : List Check → Bool → List Check

@@ -1,15 +1,16 @@
-// Document 01, "Calls and numbers": every refusal, its number, what it brings with it, and the checks of each call in their order.
+// Document 01, "Calls and numbers", and document 02: every refusal, its number, what it brings with it, and the checks of each call in their order.
 ghost use mathlib.Core.Path.{_≡_};
 ghost use mathlib.Core.List.{[], _∷_};
+ghost use Prim.Native.Nat.{_<_};
 ghost use lib.Dec.{ltb};
 ghost use lib.ListN.{length};
-ghost use Rattle.refusal.specs.Fields.{numberFor, whatOf};
-ghost use Rattle.refusal.specs.Refusals.{numberOf, detailOf, firstOf, orMalformed, firstNan, nanCheck, encodeChecks, decodeChecks, errorChecks, resendChecks, tileChecks, viewChecks};
+ghost use Rattle.refusal.specs.Names.{numberFor, whatSide, whatOf};
+ghost use Rattle.refusal.specs.Refusals.{numberOf, detailOf, firstOf, orMalformed, firstNan, nanCheck, tileNanCheck, sizeChecks, bytesChecks, encodeChecks, decodeChecks, errorChecks, resendChecks, tileChecks, viewChecks};
 use options::Options;
 
 pub enum Refusal {
-    // A side of the tile is 0, over 1,024 or no multiple of 4.
-    Size,
+    // A side of the tile is 0.
+    SideIsZero(Side),
     // The sample count is not 16, or not width * height.
     SampleCount,
     // The encoded length is not 8, or not width * height / 2.
@@ -20,20 +21,37 @@ pub enum Refusal {
     DitheredResend,
     // The column or the row of blocks is none of the tile's.
     NoSuchBlock,
-    // A sample is NaN: the lowest index.
+    // A sample of a block is NaN: the lowest index.
     SampleIsNan(usize),
+    // A sample of a tile is NaN: where the one with the lowest index stands.
+    TileSampleIsNan(Spot),
     // The options word of a record is malformed.
     WordMalformed,
+    // A side of the tile is over 1,024.
+    SideTooLarge(Side),
+    // A side of the tile is no multiple of 4.
+    SideNotMultipleOf4(Side),
     // A field of a DDS file's headers is wrong.
     DdsHeader(Field),
     // What follows the headers of a DDS file is not width * height / 2 bytes.
     DdsBody,
 }
 
-// The fields of a DDS file that a refusal can name.
-pub enum Field {
+// The sides of a tile.
+pub enum Side {
     Width,
     Height,
+}
+
+// Where a sample of a tile stands.
+pub struct Spot {
+    pub index: usize,
+    pub row: usize,
+    pub column: usize,
+}
+
+// The fields of a DDS file that a refusal can name, but for its sides.
+pub enum Field {
     // The first 128 bytes: the file is shorter.
     Header,
     // The 20 bytes that DX10 asks for after them: the file is shorter.
@@ -58,8 +76,6 @@ fn number_for(field: Field) -> u8
     ensures { λ r. ⌜ r ≡ numberFor field ⌝ }
 {
     match field {
-        Field::Width => 1,
-        Field::Height => 1,
         Field::Header => 11,
         Field::Extension => 11,
         Field::Magic => 12,
@@ -73,13 +89,21 @@ fn number_for(field: Field) -> u8
     }
 }
 
+// A side as a number, for a detail.
+fn what_side(side: Side) -> usize
+    ensures { λ r. ⌜ r ≡ whatSide side ⌝ }
+{
+    match side {
+        Side::Width => 1,
+        Side::Height => 2,
+    }
+}
+
 // A field as a number, for a detail.
 fn what_of(field: Field) -> usize
     ensures { λ r. ⌜ r ≡ whatOf field ⌝ }
 {
     match field {
-        Field::Width => 1,
-        Field::Height => 2,
         Field::Header => 3,
         Field::Extension => 4,
         Field::Magic => 5,
@@ -97,14 +121,17 @@ pub fn number(refusal: Refusal) -> u8
     ensures { λ r. ⌜ r ≡ numberOf refusal ⌝ }
 {
     match refusal {
-        Refusal::Size => 1,
+        Refusal::SideIsZero(_) => 1,
         Refusal::SampleCount => 2,
         Refusal::EncodedLength => 3,
         Refusal::OutputLength => 4,
         Refusal::DitheredResend => 5,
         Refusal::NoSuchBlock => 6,
         Refusal::SampleIsNan(_) => 7,
+        Refusal::TileSampleIsNan(_) => 7,
         Refusal::WordMalformed => 8,
+        Refusal::SideTooLarge(_) => 9,
+        Refusal::SideNotMultipleOf4(_) => 10,
         Refusal::DdsHeader(field) => number_for(field),
         Refusal::DdsBody => 15,
     }
@@ -115,8 +142,20 @@ pub fn detail(refusal: Refusal, numbers: &mut [usize; 4])
     ensures { λ _. ⌜ now (numbers .exit) ≡ detailOf refusal (now (numbers .entry)) ⌝ }
 {
     match refusal {
+        Refusal::SideIsZero(side) => {
+            *numbers = [what_side(side), 0, 0, 0];
+        }
         Refusal::SampleIsNan(i) => {
             *numbers = [0, i, 0, 0];
+        }
+        Refusal::TileSampleIsNan(spot) => {
+            *numbers = [0, spot.index, spot.row, spot.column];
+        }
+        Refusal::SideTooLarge(side) => {
+            *numbers = [what_side(side), 0, 0, 0];
+        }
+        Refusal::SideNotMultipleOf4(side) => {
+            *numbers = [what_side(side), 0, 0, 0];
         }
         Refusal::DdsHeader(field) => {
             *numbers = [what_of(field), 0, 0, 0];
@@ -161,6 +200,72 @@ fn no_nan(samples: &[f32]) -> Checked
         return Checked::Refused(Refusal::SampleIsNan(first_nan(samples)));
     }
     Checked::Passed
+}
+
+fn no_tile_nan(samples: &[f32], width: usize) -> Checked
+    requires { ⌜ 0 < width ⌝ }
+    ensures { λ r. ⌜ r ≡ firstOf (tileNanCheck (now (samples .entry)) width ∷ []) ⌝ }
+{
+    if any_nan(samples) {
+        let index = first_nan(samples);
+        return Checked::Refused(Refusal::TileSampleIsNan(Spot {
+            index: index,
+            row: index / width,
+            column: index % width,
+        }));
+    }
+    Checked::Passed
+}
+
+// What is wrong with a size: by number, and of one number the width before the height.
+fn wrong_size(width: usize, height: usize) -> Checked
+    ensures { λ r. ⌜ r ≡ firstOf (sizeChecks width height) ⌝ }
+{
+    if width == 0 {
+        return Checked::Refused(Refusal::SideIsZero(Side::Width));
+    }
+    if height == 0 {
+        return Checked::Refused(Refusal::SideIsZero(Side::Height));
+    }
+    if place::LONGEST_SIDE < width {
+        return Checked::Refused(Refusal::SideTooLarge(Side::Width));
+    }
+    if place::LONGEST_SIDE < height {
+        return Checked::Refused(Refusal::SideTooLarge(Side::Height));
+    }
+    if width % 4 != 0 {
+        return Checked::Refused(Refusal::SideNotMultipleOf4(Side::Width));
+    }
+    if height % 4 != 0 {
+        return Checked::Refused(Refusal::SideNotMultipleOf4(Side::Height));
+    }
+    Checked::Passed
+}
+
+// The checks of a size, for every call that has one. A good one passes by a single test: which side is wrong, and how, is asked of the others alone.
+pub fn size(width: usize, height: usize) -> Checked
+    ensures { λ r. ⌜ r ≡ firstOf (sizeChecks width height) ⌝ }
+{
+    if place::bad_size(width, height) {
+        return wrong_size(width, height);
+    }
+    Checked::Passed
+}
+
+// A tile's bytes: its size, and then their count.
+pub fn tile_bytes(long: usize, width: usize, height: usize) -> Checked
+    ensures { λ r. ⌜ r ≡ firstOf (bytesChecks long width height) ⌝ }
+{
+    let checked = size(width, height);
+    match checked {
+        Checked::Refused(q) => Checked::Refused(q),
+        Checked::Passed => {
+            if long != place::encoded_length(place::BC4_SIZE, width, height) {
+                return Checked::Refused(Refusal::EncodedLength);
+            }
+            Checked::Passed
+        }
+    }
 }
 
 pub fn encode(samples: &[f32]) -> Checked
@@ -212,32 +317,35 @@ pub fn resend(samples: &[f32], held: &[u8], o: Options) -> Checked
 pub fn tile(samples: &[f32], width: usize, height: usize, room: usize) -> Checked
     ensures { λ r. ⌜ r ≡ firstOf (tileChecks (now (samples .entry)) width height room) ⌝ }
 {
-    if place::bad_size(width, height) {
-        return Checked::Refused(Refusal::Size);
+    let checked = size(width, height);
+    match checked {
+        Checked::Refused(q) => Checked::Refused(q),
+        Checked::Passed => {
+            let area = width * height;
+            if samples.len() != area {
+                return Checked::Refused(Refusal::SampleCount);
+            }
+            if room < place::encoded_length(place::BC4_SIZE, width, height) {
+                return Checked::Refused(Refusal::OutputLength);
+            }
+            no_tile_nan(samples, width)
+        }
     }
-    let area = width * height;
-    if samples.len() != area {
-        return Checked::Refused(Refusal::SampleCount);
-    }
-    if room < place::encoded_length(place::BC4_SIZE, width, height) {
-        return Checked::Refused(Refusal::OutputLength);
-    }
-    no_nan(samples)
 }
 
 pub fn view(tile: &[u8], width: usize, height: usize, column: usize, row: usize) -> Checked
     ensures { λ r. ⌜ r ≡ firstOf (viewChecks (length (now (tile .entry))) width height column row) ⌝ }
 {
-    if place::bad_size(width, height) {
-        return Checked::Refused(Refusal::Size);
+    let checked = tile_bytes(tile.len(), width, height);
+    match checked {
+        Checked::Refused(q) => Checked::Refused(q),
+        Checked::Passed => {
+            if (column >= width / 4) | (row >= height / 4) {
+                return Checked::Refused(Refusal::NoSuchBlock);
+            }
+            Checked::Passed
+        }
     }
-    if tile.len() != place::encoded_length(place::BC4_SIZE, width, height) {
-        return Checked::Refused(Refusal::EncodedLength);
-    }
-    if (column >= width / 4) | (row >= height / 4) {
-        return Checked::Refused(Refusal::NoSuchBlock);
-    }
-    Checked::Passed
 }
 
 // Of a call whose options word is malformed: what the call refuses for another reason comes first.

@@ -3,4 +3,5 @@
 typedef __UINT8_TYPE__ uint8_t;
 typedef __UINT32_TYPE__ uint32_t;
 typedef __UINTMAX_TYPE__ uintmax_t;
+#define SIZE_MAX __SIZE_MAX__
 #endif

@@ -1,8 +1,9 @@
-use mathlib.Core.Path.{refl}
+use denote.Ref.{now}
+use mathlib.Core.Path.{refl, sym, _∙_}
+use lib.ListN.{length}
 use borrow.Author.Needs.{needs}
-use borrow.Author.Tests.{ltb-false}
 use Rattle.place.proofs.Places.{size-small}
-use Rattle.refusal.proofs.Firsts.{passed-clear, same-of}
+use Rattle.refusal.proofs.Tiles.{Samples, tile-passed}
 use Rattle.bc4.proofs.encode_tile.Statement.{statement}
 use Rattle.bc4.proofs.encode_tile.Tie as tie
 
@@ -15,16 +16,14 @@ enum-known-checked c = search needs
 enum-told : tie.Need-enum-told
 enum-told c = search needs
 
+accepted : (t : tie.After-enum-told) → let a = t .before .before .before .before .before .args in Samples (now (a .samples)) (a .width) (a .height) (length (now (a .out)))
+accepted t = let a = t .before .before .before .before .before .args in tile-passed (now (a .samples)) (a .width) (a .height) (length (now (a .out))) (sym (t .before .before .tile .ensures) ∙ t .enum-told .given .1)
+
 encode-rows-requires : tie.Need-encode-rows-requires
-encode-rows-requires c κs =
-    let clear = passed-clear _ (c .before .before .before .tile .ensures) (c .before .enum-told .given .1) in
-    (clear .0, same-of _ _ (clear .1 .0), ltb-false _ _ (clear .1 .1 .0))
+encode-rows-requires c κs = let a = accepted (c .before) in (a .good, a .count, a .room)
 
 encoded-length-requires : tie.Need-encoded-length-requires
-encoded-length-requires c κs =
-    let t = c .before .before .before .before in
-    let small = size-small _ _ (passed-clear _ (t .before .before .tile .ensures) (t .enum-told .given .1) .0) in
-    search needs
+encoded-length-requires c κs = let small = size-small _ _ (accepted (c .before .before .before .before) .good) in search needs
 
 returns : tie.Need-returns
 returns c = (rw (← c .before .before .before .tile .ensures, c .before .checked .given .1), refl)

@@ -1,17 +1,13 @@
 -- `dds::write` meets its contract: the header, and then the tile after it.
 use denote.Ref.{now}
-use mathlib.Core.Path.{_≡_, refl, _∙_}
-use mathlib.Core.Bool.{false}
-use Prim.Native.Nat.{ℕ, _+_, _≤_}
+use mathlib.Core.Path.{_≡_, refl, sym, _∙_}
 use native.Mathlib.Omega.{arith}
 use lib.ListN.{length, length-take, length-drop}
-use borrow.Author.Tests.{ltb-false}
 use borrow.Author.Needs.{needs}
-use Rattle.place.specs.Place.{badSize, bc4Size, encodedLength}
 use Rattle.place.proofs.Joined.{all-copied}
-use Rattle.refusal.proofs.Firsts.{passed-clear, same-of}
 use Rattle.dds.specs.Layout.{headerLength, headerOf}
 use Rattle.dds.proofs.Files.{header-length, tile-put}
+use Rattle.dds.proofs.Room.{Room, room as write-room}
 use Rattle.dds.proofs.write.Statement.{statement}
 use Rattle.dds.proofs.write.Tie as tie
 
@@ -25,15 +21,8 @@ enum-told : tie.Need-enum-told
 enum-told c = search needs
 
 -- what the checks found
-record Room (long width height most : ℕ) : Type 0 where
-  good : badSize width height ≡ false
-  tile : long ≡ encodedLength bc4Size width height
-  out : headerLength + encodedLength bc4Size width height ≤ most
-
 room : (t : tie.After-enum-told) → let a = t .before .before .before .before .before .args in Room (length (now (a .tile))) (a .width) (a .height) (length (now (a .out)))
-room t =
-    let clear = passed-clear _ (t .before .before .write-refusal .ensures) (t .enum-told .given .1) in
-    record { good = clear .0; tile = same-of _ _ (clear .1 .0); out = ltb-false _ _ (clear .1 .1 .0) }
+room t = write-room _ _ _ _ (sym (t .before .before .write-refusal .ensures) ∙ t .enum-told .given .1)
 
 put-requires : tie.Need-put-requires
 put-requires c κs = let r = room (c .before) in (r .good, search needs)

@@ -1,44 +1,44 @@
-use mathlib.Core.Path.{sym, _∙_}
-use borrow.Author.Tests.{eq-eqb, ne-eqb, lt-ltb, le-ltb}
-use borrow.Author.Needs.{needs}
+use mathlib.Core.Path.{_≡_, sym, _∙_}
+use borrow.Author.Tests.{lt-ltb, le-ltb}
 use Rattle.place.proofs.Places.{size-small}
-use Rattle.refusal.specs.Refusals.{firstOf}
+use Rattle.refusal.specs.declared.Checked.the-variants.{Passed}
+use Rattle.refusal.specs.Refusals.{firstOf, bytesChecks}
+use Rattle.refusal.proofs.Firsts.{refused-before, passed-before}
+use Rattle.refusal.proofs.Tiles.{Bytes, bytes-passed}
+use borrow.Author.Needs.{needs}
 use Rattle.dds.proofs.write_refusal.Statement.{statement}
 use Rattle.dds.proofs.write_refusal.Tie as tie
 
-bad-size-requires : tie.Need-bad-size-requires
-bad-size-requires c κs = search needs
+tile-bytes-requires : tie.Need-tile-bytes-requires
+tile-bytes-requires c κs = search needs
+
+enum-known-checked : tie.Need-enum-known-checked
+enum-known-checked c = search needs
+
+enum-told : tie.Need-enum-told
+enum-told c = search needs
+
+told : (t : tie.After-enum-told) → let a = t .before .before .before .args in firstOf (bytesChecks (a .long) (a .width) (a .height)) ≡ Passed
+told t = sym (t .before .before .tile-bytes .ensures) ∙ t .enum-told .given .1
+
+bytes : (t : tie.After-enum-told) → let a = t .before .before .before .args in Bytes (a .long) (a .width) (a .height)
+bytes t = bytes-passed _ _ _ (told t)
+
+add-if1 : tie.Need-add-if1
+add-if1 c = let b = bytes c in let small = size-small _ _ (b .good) in search needs
 
 returns : tie.Need-returns
 unfolding firstOf
-returns c = rw (← c .before .bad-size .ensures, c .if1 .taken)
-
-encoded-length-requires : tie.Need-encoded-length-requires
-encoded-length-requires c κs = let small = size-small _ _ (sym (c .before .bad-size .ensures) ∙ c .if1 .left) in search needs
+returns c = rw (passed-before (bytesChecks _ _ _) _ (told (c .before)), ← bytes (c .before) .count, lt-ltb _ _ (c .if1 .taken))
 
 returns-2 : tie.Need-returns-2
-unfolding firstOf
-returns-2 c = rw (← c .before .before .before .bad-size .ensures, c .before .before .if1 .left, ← c .before .encoded-length .ensures, ne-eqb _ _ (c .if2 .taken))
-
-add-if3 : tie.Need-add-if3
-add-if3 c = let small = size-small _ _ (sym (c .before .before .before .bad-size .ensures) ∙ c .before .before .if1 .left) in search needs
+returns-2 c = sym (refused-before (bytesChecks _ _ _) _ (sym (c .before .before .before .tile-bytes .ensures) ∙ c .before .checked .given .1))
 
 returns-3 : tie.Need-returns-3
 unfolding firstOf
-returns-3 c = rw (← c .before .before .before .before .bad-size .ensures, c .before .before .before .if1 .left, ← c .before .before .encoded-length .ensures, eq-eqb _ _ (c .before .if2 .left), lt-ltb _ _ (c .if3 .taken))
-
-returns-4 : tie.Need-returns-4
-unfolding firstOf
-returns-4 c = rw (← c .before .before .before .before .bad-size .ensures, c .before .before .before .if1 .left, ← c .before .before .encoded-length .ensures, eq-eqb _ _ (c .before .if2 .left), le-ltb _ _ (c .if3 .left))
+returns-3 c = rw (passed-before (bytesChecks _ _ _) _ (told (c .before)), ← bytes (c .before) .count, le-ltb _ _ (c .if1 .left))
 
 pub write-refusal-spec : {M : Type 1} → statement M
 write-refusal-spec =
     tie.close
-    (tie.spec
-    bad-size-requires
-    returns
-    encoded-length-requires
-    returns-2
-    add-if3
-    returns-3
-    returns-4)
+    (tie.spec tile-bytes-requires enum-known-checked enum-told add-if1 returns returns-2 returns-3)

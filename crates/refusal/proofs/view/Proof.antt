@@ -1,32 +1,31 @@
-use mathlib.Core.Path.{sym, _∙_}
-use Rattle.place.proofs.Places.{size-small}
-use borrow.Author.Tests.{eq-eqb, ne-eqb}
-use Rattle.refusal.specs.Refusals.{firstOf}
+use mathlib.Core.Path.{_≡_, sym, _∙_}
+use Rattle.refusal.specs.Refusals.{firstOf, bytesChecks}
+use Rattle.refusal.proofs.Firsts.{refused-before, passed-before}
 use borrow.Author.Needs.{needs}
 use Rattle.refusal.proofs.view.Statement.{statement}
 use Rattle.refusal.proofs.view.Tie as tie
 
-bad-size-requires : tie.Need-bad-size-requires
-bad-size-requires c κs = search needs
+tile-bytes-requires : tie.Need-tile-bytes-requires
+tile-bytes-requires c κs = search needs
+
+enum-known-checked : tie.Need-enum-known-checked
+enum-known-checked c = search needs
+
+enum-told : tie.Need-enum-told
+enum-told c = search needs
 
 returns : tie.Need-returns
 unfolding firstOf
-returns c = rw (← c .before .bad-size .ensures, c .if1 .taken)
-
-encoded-length-requires : tie.Need-encoded-length-requires
-encoded-length-requires c κs = let small = size-small _ _ (sym (c .before .bad-size .ensures) ∙ c .if1 .left) in search needs
+returns c = rw (passed-before (bytesChecks _ _ _) _ (sym (c .before .before .before .tile-bytes .ensures) ∙ c .before .enum-told .given .1), c .if1 .taken)
 
 returns-2 : tie.Need-returns-2
-unfolding firstOf
-returns-2 c = rw (← c .before .before .before .bad-size .ensures, c .before .before .if1 .left, ← c .before .encoded-length .ensures, ne-eqb _ _ (c .if2 .taken))
+returns-2 c = sym (refused-before (bytesChecks _ _ _) _ (sym (c .before .before .before .tile-bytes .ensures) ∙ c .before .checked .given .1))
 
 returns-3 : tie.Need-returns-3
 unfolding firstOf
-returns-3 c = rw (← c .before .before .before .before .bad-size .ensures, c .before .before .before .if1 .left, ← c .before .before .encoded-length .ensures, eq-eqb _ _ (c .before .if2 .left), c .if3 .taken)
-
-returns-4 : tie.Need-returns-4
-unfolding firstOf
-returns-4 c = rw (← c .before .before .before .before .bad-size .ensures, c .before .before .before .if1 .left, ← c .before .before .encoded-length .ensures, eq-eqb _ _ (c .before .if2 .left), c .if3 .left)
+returns-3 c = rw (passed-before (bytesChecks _ _ _) _ (sym (c .before .before .before .tile-bytes .ensures) ∙ c .before .enum-told .given .1), c .if1 .left)
 
 pub view-spec : {M : Type 1} → statement M
-view-spec = tie.close (tie.spec bad-size-requires returns encoded-length-requires returns-2 returns-3 returns-4)
+view-spec =
+    tie.close
+    (tie.spec tile-bytes-requires enum-known-checked enum-told returns returns-2 returns-3)

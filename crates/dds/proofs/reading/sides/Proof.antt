@@ -1,12 +1,17 @@
--- `dds::reading::sides` meets its contract: two good sides make a size whose bytes fit a word.
-use mathlib.Core.Path.{sym, _∙_}
+-- `dds::reading::sides` meets its contract: a size that is not refused has so many bytes that their count fits a word.
+use mathlib.Core.Path.{_≡_, sym, _∙_}
 use Prim.Native.Nat.{_*_, _≤_}
 use borrow.Author.Tests.{eq-eqb, ne-eqb}
-use borrow.Author.Needs.{needs}
-use Rattle.refusal.specs.Refusals.{firstOf}
-use Rattle.dds.proofs.Headers.{body-near}
 use Rattle.place.specs.Place.{longestSide}
-use Rattle.place.proofs.Places.{sides-good, size-small}
+use Rattle.place.proofs.Places.{size-small}
+use Rattle.refusal.specs.declared.Checked.the-variants.{Passed}
+use Rattle.refusal.specs.Refusals.{firstOf, sizeChecks}
+use Rattle.refusal.proofs.Firsts.{refused-before, passed-before}
+use Rattle.refusal.proofs.Sizes.{size-passed}
+use Rattle.dds.specs.Layout.{widthIn, heightIn}
+use Rattle.dds.specs.Checks.{sideChecks, bodyChecks}
+use Rattle.dds.proofs.Headers.{body-near}
+use borrow.Author.Needs.{needs}
 use Rattle.dds.proofs.reading.sides.Statement.{statement}
 use Rattle.dds.proofs.reading.sides.Tie as tie
 
@@ -16,57 +21,56 @@ read-u32-requires c κs = search needs
 cast-width : tie.Need-cast-width
 cast-width c = search needs
 
-bad-side-requires : tie.Need-bad-side-requires
-bad-side-requires c κs = search needs
-
-wrong-requires : tie.Need-wrong-requires
-wrong-requires c κs = search needs
-
-returns : tie.Need-returns
-unfolding firstOf
-returns c = rw (← c .before .before .before .read-u32 .ensures, ← c .before .before .bad-side .ensures, c .before .if1 .taken) (c .wrong .ensures)
-
 read-u32-requires-2 : tie.Need-read-u32-requires-2
 read-u32-requires-2 c κs = search needs
 
 cast-height : tie.Need-cast-height
 cast-height c = search needs
 
-bad-side-requires-2 : tie.Need-bad-side-requires-2
-bad-side-requires-2 c κs = search needs
+size-requires : tie.Need-size-requires
+size-requires c κs = search needs
 
-wrong-requires-2 : tie.Need-wrong-requires-2
-wrong-requires-2 c κs = search needs
+enum-known-checked : tie.Need-enum-known-checked
+enum-known-checked c = search needs
 
-returns-2 : tie.Need-returns-2
-unfolding firstOf
-returns-2 c = rw (← c .before .before .before .before .before .before .read-u32 .ensures, ← c .before .before .before .before .before .bad-side .ensures, c .before .before .before .before .if1 .left, ← c .before .before .before .read-u322 .ensures, ← c .before .before .bad-side2 .ensures, c .before .if2 .taken) (c .wrong2 .ensures)
+enum-told : tie.Need-enum-told
+enum-told c = search needs
+
+-- the size that was looked at is the file's
+sizes : (s : tie.After-size) → firstOf (sideChecks (s .before .before .before .before .args .file .now)) ≡ firstOf (sizeChecks (s .before .before .read-u32 .result) (s .before .read-u322 .result))
+sizes s = rw (s .before .before .read-u32 .ensures, s .before .read-u322 .ensures)
+
+told : (t : tie.After-enum-told) → firstOf (sideChecks (t .before .before .before .before .before .before .args .file .now)) ≡ Passed
+told t = sizes (t .before .before) ∙ sym (t .before .before .size .ensures) ∙ t .enum-told .given .1
+
+area : (t : tie.After-enum-told) → t .before .before .before .before .read-u32 .result * t .before .before .before .read-u322 .result ≤ longestSide * longestSide
+area t = size-small _ _ (size-passed _ _ (sym (t .before .before .size .ensures) ∙ t .enum-told .given .1))
 
 body-at-requires : tie.Need-body-at-requires
 body-at-requires c κs = search needs
 
-area : (c : tie.After-body-at) → c .before .before .before .before .before .before .read-u32 .result * c .before .before .before .read-u322 .result ≤ longestSide * longestSide
-area c =
-    let width = sym (c .before .before .before .before .before .bad-side .ensures) ∙ c .before .before .before .before .if1 .left in
-    let height = sym (c .before .before .bad-side2 .ensures) ∙ c .before .if2 .left in
-    size-small _ _ (sides-good _ _ width height)
-
 encoded-length-requires : tie.Need-encoded-length-requires
-encoded-length-requires c κs = let small = area c in search needs
+encoded-length-requires c κs = let small = area (c .before) in search needs
 
-add-if3 : tie.Need-add-if3
-add-if3 c =
-    let small = area (c .before) in
-    let near = body-near (c .before .before .before .before .before .before .before .before .before .args .file .now) in
+add-if1 : tie.Need-add-if1
+add-if1 c =
+    let small = area (c .before .before) in
+    let near = body-near (c .before .before .before .before .before .before .before .before .args .file .now) in
     search needs
+
+returns : tie.Need-returns
+unfolding firstOf
+returns c = rw (passed-before (sideChecks _) _ (told (c .before .before .before)), ← c .before .before .before .before .before .before .before .read-u32 .ensures, ← c .before .before .before .before .before .before .read-u322 .ensures, ← c .before .before .body-at .ensures, ← c .before .encoded-length .ensures, ne-eqb _ _ (c .if1 .taken))
+
+returns-2 : tie.Need-returns-2
+returns-2 c =
+    let s = c .before .before .before in
+    let file = s .before .before .before .before .args .file .now in
+    sym (refused-before (sideChecks file) (bodyChecks file) (sizes s ∙ sym (s .size .ensures) ∙ c .before .checked .given .1))
 
 returns-3 : tie.Need-returns-3
 unfolding firstOf
-returns-3 c = rw (← c .before .before .before .before .before .before .before .before .read-u32 .ensures, ← c .before .before .before .before .before .before .before .bad-side .ensures, c .before .before .before .before .before .before .if1 .left, ← c .before .before .before .before .before .read-u322 .ensures, ← c .before .before .before .before .bad-side2 .ensures, c .before .before .before .if2 .left, ← c .before .before .body-at .ensures, ← c .before .encoded-length .ensures, ne-eqb _ _ (c .if3 .taken))
-
-returns-4 : tie.Need-returns-4
-unfolding firstOf
-returns-4 c = rw (← c .before .before .before .before .before .before .before .before .read-u32 .ensures, ← c .before .before .before .before .before .before .before .bad-side .ensures, c .before .before .before .before .before .before .if1 .left, ← c .before .before .before .before .before .read-u322 .ensures, ← c .before .before .before .before .bad-side2 .ensures, c .before .before .before .if2 .left, ← c .before .before .body-at .ensures, ← c .before .encoded-length .ensures, eq-eqb _ _ (c .if3 .left))
+returns-3 c = rw (passed-before (sideChecks _) _ (told (c .before .before .before)), ← c .before .before .before .before .before .before .before .read-u32 .ensures, ← c .before .before .before .before .before .before .read-u322 .ensures, ← c .before .before .body-at .ensures, ← c .before .encoded-length .ensures, eq-eqb _ _ (c .if1 .left))
 
 pub sides-spec : {M : Type 1} → statement M
 sides-spec =
@@ -74,16 +78,14 @@ sides-spec =
     (tie.spec
     read-u32-requires
     cast-width
-    bad-side-requires
-    wrong-requires
-    returns
     read-u32-requires-2
     cast-height
-    bad-side-requires-2
-    wrong-requires-2
-    returns-2
+    size-requires
+    enum-known-checked
+    enum-told
     body-at-requires
     encoded-length-requires
-    add-if3
-    returns-3
-    returns-4)
+    add-if1
+    returns
+    returns-2
+    returns-3)

@@ -1,0 +1,28 @@
+use Rattle.refusal.specs.Refusals.{firstOf}
+use borrow.Author.Needs.{needs}
+use Rattle.refusal.proofs.no_tile_nan.Statement.{statement}
+use Rattle.refusal.proofs.no_tile_nan.Tie as tie
+
+any-nan-requires : tie.Need-any-nan-requires
+any-nan-requires c κs = search needs
+
+first-nan-requires : tie.Need-first-nan-requires
+first-nan-requires c κs = search needs
+
+div-t5 : tie.Need-div-t5
+div-t5 c = search needs
+
+rem-t6 : tie.Need-rem-t6
+rem-t6 c = search needs
+
+returns : tie.Need-returns
+unfolding firstOf
+returns c = rw (← c .before .before .any-nan .ensures, c .before .if1 .taken, ← c .first-nan .ensures)
+
+returns-2 : tie.Need-returns-2
+unfolding firstOf
+returns-2 c = rw (← c .before .any-nan .ensures, c .if1 .left)
+
+pub no-tile-nan-spec : {M : Type 1} → statement M
+no-tile-nan-spec =
+    tie.close (tie.spec any-nan-requires first-nan-requires div-t5 rem-t6 returns returns-2)
