@@ -35,10 +35,6 @@ pub good-sides : (width height : ℕ) → badSize width height ≡ false → (ba
 unfolding badSize
 good-sides width height good = neither _ _ good
 
-pub sides-good : (width height : ℕ) → badSide width ≡ false → badSide height ≡ false → badSize width height ≡ false
-unfolding badSize
-sides-good width height w h = rw (w, h)
-
 pub record RowRoom (size width height row : ℕ) : Type 0 where
   pub start : blockAt size width 0 row ≡ row * (along width * size)
   pub next : blockAt size width 0 (row + 1) ≡ row * (along width * size) + along width * size

@@ -1,4 +1,4 @@
--- Document 01, "Calls and numbers": which sizes a tile has (refusal 1), which blocks stand in it (refusal 6), and where their samples and bytes
+-- Document 01, "Calls and numbers": which sizes a tile has (refusals 1, 9 and 10), which blocks stand in it (refusal 6), and where their samples and bytes
 -- are. Samples are row-major, blocks go row by row from the top left. `size` is the bytes of a block.
 use mathlib.Core.Bool.{Bool, not, _||_}
 use mathlib.Core.List.{List, [], _++_}

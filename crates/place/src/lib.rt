@@ -9,7 +9,7 @@ pub const LONGEST_SIDE: usize = 1024;
 // The bytes of a BC4 block.
 pub const BC4_SIZE: usize = 8;
 
-pub fn bad_side(n: usize) -> bool
+fn bad_side(n: usize) -> bool
     ensures { λ r. ⌜ r ≡ badSide n ⌝ }
 {
     (n == 0) | (LONGEST_SIDE < n) | (n % 4 != 0)

@@ -3,7 +3,7 @@ use mathlib.Core.Path.{_≡_, refl}
 use mathlib.Core.Bool.{false}
 use Prim.Native.Nat.{ℕ}
 use Rattle.place.specs.Place.{badSide, badSize}
-use Rattle.place.proofs.Places.{neither}
+use Rattle.place.proofs.Places.{neither, good-sides}
 use Rattle.refusal.specs.declared.Checked.the-variants.{Passed}
 use Rattle.refusal.specs.Refusals.{firstOf, sizeChecks}
 use Rattle.refusal.proofs.Firsts.{first-clear, clear-passed}
@@ -16,9 +16,9 @@ module _ (width height : ℕ) where
       rw (clear .0, clear .1 .0, clear .1 .1 .0, clear .1 .1 .1 .0, clear .1 .1 .1 .1 .0, clear .1 .1 .1 .1 .1 .0)
 
   pub good-passes : badSize width height ≡ false → firstOf (sizeChecks width height) ≡ Passed
-  unfolding sizeChecks badSize badSide
+  unfolding sizeChecks badSide
   good-passes good =
-      let sides = neither (badSide width) (badSide height) good in
+      let sides = good-sides width height good in
       let w = neither _ _ (sides .0) in
       let h = neither _ _ (sides .1) in
       let w′ = neither _ _ (w .0) in

@@ -9,7 +9,7 @@ use lib.Ieee.{Float, isNan}
 use Rattle.options.specs.declared.Options.{Options}
 use Rattle.place.specs.Place.{longestSide, noBlock, bc4Size, encodedLength}
 use Rattle.refusal.specs.declared.Refusal.{Refusal}
-use Rattle.refusal.specs.declared.Refusal.the-variants.{SideIsZero, SampleCount, EncodedLength, OutputLength, DitheredResend, NoSuchBlock, SampleIsNan, TileSampleIsNan, WordMalformed, SideTooLarge, SideNotMultipleOf4, DdsHeader, DdsBody}
+use Rattle.refusal.specs.declared.Refusal.the-variants.{SideIsZero, SampleCount, EncodedLength, OutputLength, DitheredResend, NoSuchBlock, SampleIsNan, WordMalformed, SideTooLarge, SideNotMultipleOf4, TileSampleIsNan, DdsHeader, DdsBody}
 use Rattle.refusal.specs.declared.Side.the-variants.{Width, Height}
 use Rattle.refusal.specs.declared.Spot.{Spot}
 use Rattle.refusal.specs.declared.Checked.{Checked}
@@ -25,10 +25,10 @@ numberOf OutputLength = 4
 numberOf DitheredResend = 5
 numberOf NoSuchBlock = 6
 numberOf (SampleIsNan i) = 7
-numberOf (TileSampleIsNan spot) = 7
 numberOf WordMalformed = 8
 numberOf (SideTooLarge side) = 9
 numberOf (SideNotMultipleOf4 side) = 10
+numberOf (TileSampleIsNan spot) = 7
 numberOf (DdsHeader field) = numberFor field
 numberOf DdsBody = 15
 

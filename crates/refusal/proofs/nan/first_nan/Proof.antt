@@ -1,10 +1,10 @@
--- `refusal::first_nan` meets its contract: the samples that were passed are none.
+-- `refusal::nan::first_nan` meets its contract: the samples that were passed are none.
 use Prim.Native.Nat.{_-_, _≤_}
 use lib.ListN.{length}
 use borrow.Author.Needs.{needs}
 use Rattle.refusal.proofs.Nans.{Passed-to, nan-here, nan-later, nan-none}
-use Rattle.refusal.proofs.first_nan.Statement.{statement}
-use Rattle.refusal.proofs.first_nan.Tie as tie
+use Rattle.refusal.proofs.nan.first_nan.Statement.{statement}
+use Rattle.refusal.proofs.nan.first_nan.Tie as tie
 
 abbrev Inv-loop : tie.InvT-loop
 Inv-loop samples i₀ i = (i ≤ length samples) × Passed-to samples i

@@ -1,10 +1,10 @@
--- `refusal::any_nan` meets its contract: the flag says whether one was found among those passed.
+-- `refusal::nan::any_nan` meets its contract: the flag says whether one was found among those passed.
 use Prim.Native.Nat.{_-_, _≤_}
 use lib.ListN.{length}
 use borrow.Author.Needs.{needs}
 use Rattle.refusal.proofs.Nans.{Looked, looked-later, looked-all}
-use Rattle.refusal.proofs.any_nan.Statement.{statement}
-use Rattle.refusal.proofs.any_nan.Tie as tie
+use Rattle.refusal.proofs.nan.any_nan.Statement.{statement}
+use Rattle.refusal.proofs.nan.any_nan.Tie as tie
 
 abbrev Inv-loop : tie.InvT-loop
 Inv-loop samples found₀ i₀ found i = (i ≤ length samples) × Looked samples found i

@@ -1,14 +1,14 @@
 use mathlib.Core.Path.{sym, _∙_}
 use borrow.Author.Needs.{needs}
 use Rattle.refusal.proofs.Sizes.{good-passes}
-use Rattle.refusal.proofs.size.Statement.{statement}
-use Rattle.refusal.proofs.size.Tie as tie
+use Rattle.refusal.proofs.shape.size.Statement.{statement}
+use Rattle.refusal.proofs.shape.size.Tie as tie
 
 bad-size-requires : tie.Need-bad-size-requires
 bad-size-requires c κs = search needs
 
 wrong-size-requires : tie.Need-wrong-size-requires
-wrong-size-requires c κs = search needs
+wrong-size-requires c κs = sym (c .before .bad-size .ensures) ∙ c .if1 .taken
 
 returns : tie.Need-returns
 returns c = c .wrong-size .ensures

@@ -6,8 +6,8 @@ use Rattle.refusal.specs.Refusals.{firstOf, sizeChecks}
 use Rattle.refusal.proofs.Firsts.{refused-before, passed-before}
 use Rattle.refusal.proofs.Sizes.{size-passed}
 use borrow.Author.Needs.{needs}
-use Rattle.refusal.proofs.tile_bytes.Statement.{statement}
-use Rattle.refusal.proofs.tile_bytes.Tie as tie
+use Rattle.refusal.proofs.shape.tile_bytes.Statement.{statement}
+use Rattle.refusal.proofs.shape.tile_bytes.Tie as tie
 
 size-requires : tie.Need-size-requires
 size-requires c κs = search needs
