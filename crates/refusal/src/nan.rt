@@ -53,10 +53,12 @@ pub fn no_tile_nan(samples: &[f32], width: usize) -> Checked
 {
     if any_nan(samples) {
         let index = first_nan(samples);
+        let row = index / width;
+        let column = index % width;
         return Checked::Refused(Refusal::TileSampleIsNan(Spot {
             index: index,
-            row: index / width,
-            column: index % width,
+            row: row,
+            column: column,
         }));
     }
     Checked::Passed

@@ -9,11 +9,11 @@ any-nan-requires c κs = search needs
 first-nan-requires : tie.Need-first-nan-requires
 first-nan-requires c κs = search needs
 
-div-t5 : tie.Need-div-t5
-div-t5 c = search needs
+div-row : tie.Need-div-row
+div-row c = search needs
 
-rem-t6 : tie.Need-rem-t6
-rem-t6 c = search needs
+rem-column : tie.Need-rem-column
+rem-column c = search needs
 
 returns : tie.Need-returns
 unfolding firstOf
@@ -25,4 +25,4 @@ returns-2 c = rw (← c .before .any-nan .ensures, c .if1 .left)
 
 pub no-tile-nan-spec : {M : Type 1} → statement M
 no-tile-nan-spec =
-    tie.close (tie.spec any-nan-requires first-nan-requires div-t5 rem-t6 returns returns-2)
+    tie.close (tie.spec any-nan-requires first-nan-requires div-row rem-column returns returns-2)
