@@ -9,7 +9,7 @@ import subprocess
 import sys
 from fractions import Fraction
 
-from refusals import FAR, FARTHEST, SIZES, first, size_checks
+from refusals import FAR, FARTHEST, first, size_checks
 
 INF = float("inf")
 oracle = sys.argv[1]
@@ -433,12 +433,6 @@ def view_lines():
     viewed(8, 6, 25, 0, 3)
 
 
-def size_lines():
-    for width, height in SIZES:
-        tiled(width, height, 16, 0, 3)
-        viewed(width, height, 8, FARTHEST, FARTHEST)
-
-
 def large_lines():
     n, out = 1024 * 1024, b"\xa5" * 524296
     for nans in [(n - 1,), ()]:
@@ -455,7 +449,6 @@ error_lines()
 resend_lines()
 tile_lines()
 view_lines()
-size_lines()
 large_lines()
 end_lines()
 with open(sys.argv[2], "w") as handle:

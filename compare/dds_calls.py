@@ -5,7 +5,7 @@ Nothing of the library is asked. The order of the cases, and the bytes that they
 import sys
 
 from dds_rules import header, reading
-from refusals import FAR, SIZES, Refused, first, size_checks
+from refusals import FAR, Refused, first, size_checks
 
 lines = []
 
@@ -160,12 +160,6 @@ def read_lines():
         lines.append(f"{name_of(extension, length)}, each byte changed alone: " + " ".join(map(str, numbers)))
 
 
-def size_lines():
-    for width, height in SIZES:
-        wrote(width, height, 8, 0)
-        read(False, 144, (16, width % 2**32), (12, height % 2**32))
-
-
 def large_lines():
     tile = given_bytes(524288)
     line, out = write(tile, 1024, 1024, True, b"\xa5" * 524424, 524424)
@@ -176,7 +170,6 @@ def large_lines():
 
 write_lines()
 read_lines()
-size_lines()
 large_lines()
 with open(sys.argv[1], "w") as handle:
     handle.write("".join(line + "\n" for line in lines))

@@ -1,11 +1,8 @@
-"""Refusals as a line shows them, those of a size by document 02, 2/12, and the sizes that each call which takes one is given. For the scripts
-beside it."""
+"""Refusals as a line shows them, those of a size by document 02, 2/12. For the scripts beside it."""
 from collections import namedtuple
 
 FAR = 2**64 - 4
 FARTHEST = 2**64 - 1
-SIZES = [(0, 0), (6, 0), (0, 2000), (2000, 0), (2000, 6), (6, 2000), (1026, 4), (6, 6), (1024, 1024), (1028, 1028)]
-SIZES += [(FARTHEST, 4), (4, FARTHEST), (FARTHEST, FARTHEST)]
 
 
 class Refused(namedtuple("Refused", "number detail", defaults=[""])):

@@ -6,7 +6,6 @@ mod ends;
 mod errors;
 mod large;
 mod resending;
-mod sizes;
 mod tiles;
 mod views;
 
@@ -17,7 +16,6 @@ fn main() {
     resending::cases();
     tiles::cases();
     views::cases();
-    sizes::cases();
     large::cases();
     ends::cases();
 }

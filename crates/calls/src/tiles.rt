@@ -36,7 +36,7 @@ fn into(samples: &[f32], width: usize, height: usize, out: &mut [u8], room: usiz
 }
 
 // With NaN at two indexes or none.
-pub fn tiled(width: usize, height: usize, count: usize, room: usize, first: usize, second: usize) {
+fn tiled(width: usize, height: usize, count: usize, room: usize, first: usize, second: usize) {
     let mut s = [0.0f32; 4112];
     given::fill_samples(&mut s, first, second);
     let mut out = [0xa5u8; 2064];

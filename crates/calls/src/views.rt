@@ -20,7 +20,7 @@ pub fn place(column: usize, row: usize) {
     show::text(b" of ");
 }
 
-pub fn viewed(width: usize, height: usize, length: usize, column: usize, row: usize) {
+fn viewed(width: usize, height: usize, length: usize, column: usize, row: usize) {
     let mut t = [0u8; 2056];
     given::fill_bytes(&mut t);
     place(column, row);

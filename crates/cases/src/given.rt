@@ -10,24 +10,6 @@ pub const FAR: usize = 0xffff_ffff_ffff_fffc;
 
 pub const FARTHEST: usize = 0xffff_ffff_ffff_ffff;
 
-// Width and height for each call that takes a size: each fault together with the one that is looked for next, a size without a fault, and the
-// farthest sides.
-pub const SIZES: [[usize; 2]; 13] = [
-    [0, 0],
-    [6, 0],
-    [0, 2000],
-    [2000, 0],
-    [2000, 6],
-    [6, 2000],
-    [1026, 4],
-    [6, 6],
-    [1024, 1024],
-    [1028, 1028],
-    [FARTHEST, 4],
-    [4, FARTHEST],
-    [FARTHEST, FARTHEST],
-];
-
 fn nan() -> f32 {
     0.0 / 0.0
 }

@@ -2,12 +2,10 @@
 // after it. The file stdout beside src/ was worked out by compare/dds_calls.py, not by this program.
 mod large;
 mod reading;
-mod sizes;
 mod writing;
 
 fn main() {
     writing::cases();
     reading::cases();
-    sizes::cases();
     large::cases();
 }

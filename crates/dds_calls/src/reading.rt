@@ -90,7 +90,7 @@ fn change(at: usize, x: u32) {
 }
 
 // The first `length` bytes, with two fields changed or none.
-pub fn changed(extension: bool, length: usize, at: usize, x: u32, and_at: usize, and_x: u32) {
+fn changed(extension: bool, length: usize, at: usize, x: u32, and_at: usize, and_x: u32) {
     let mut file = made(extension);
     set(&mut file, at, x);
     set(&mut file, and_at, and_x);

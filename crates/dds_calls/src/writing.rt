@@ -34,7 +34,7 @@ fn into(tile: &[u8], width: usize, height: usize, out: &mut [u8], room: usize) {
 }
 
 // A tile of `length` bytes.
-pub fn wrote(width: usize, height: usize, length: usize, room: usize) {
+fn wrote(width: usize, height: usize, length: usize, room: usize) {
     let mut t = [0u8; 2056];
     given::fill_bytes(&mut t);
     let mut out = [0xa5u8; 2184];

@@ -1,8 +1,8 @@
--- `calls::sizes::cases` is safe and ends.
+-- `size_calls::main` is safe and ends.
 use Prim.Native.Nat.{_-_, _≤_}
 use borrow.Author.Needs.{needs}
-use Rattle.calls.proofs.sizes.cases.Statement.{statement}
-use Rattle.calls.proofs.sizes.cases.Tie as tie
+use Rattle.size_calls.proofs.main.Statement.{statement}
+use Rattle.size_calls.proofs.main.Tie as tie
 
 abbrev Inv-loop : tie.InvT-loop
 Inv-loop sizes k₀ k = k ≤ 13
@@ -46,8 +46,8 @@ loop-again c = search needs
 returns : tie.Need-returns Inv-loop μ-loop
 returns c = search needs
 
-pub cases-spec : {M : Type 1} → statement M
-cases-spec =
+pub main-spec : {M : Type 1} → statement M
+main-spec =
     tie.close
     (tie.spec
     Inv-loop
