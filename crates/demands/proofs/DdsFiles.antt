@@ -23,7 +23,7 @@ use Rattle.dds.specs.declared.Found.the-variants.{File, Refused as NotFound}
 use Rattle.dds.specs.declared.Picture.{Picture}
 use Rattle.dds.specs.Layout.{headerLength, bc4s, dx10, unsignedFormat, signedFormat, headerFields, headerField, fileOf, widthIn, heightIn, extended, formatIn, arraySizeIn, bodyAt}
 use Rattle.dds.specs.Checks.{writeChecks, cutChecks, markChecks, formatChecks, pictureChecks, sideChecks, bodyChecks, readChecks}
-use Rattle.dds.specs.Calls.{writeAnswer, pictureIn, readAnswer, bodyOf}
+use Rattle.dds.specs.Calls.{writeAnswer, pictureIn, readAnswer}
 use Rattle.dds.proofs.Files.{file-length, file-body, field-stands, field-reads}
 use Rattle.dds.proofs.Room.{room}
 use Rattle.dds.proofs.ReadBack.{width-back, height-back, read-back}

@@ -1,7 +1,6 @@
 -- Document 02, 2/12: what is promised of the sizes of a tile besides their place in each call's list, which is in `Demand1`.
 use mathlib.Core.Path.{_≡_}
 use mathlib.Core.Logic.{_⊎_}
-use mathlib.Core.List.{List}
 use Prim.Native.Nat.{ℕ}
 use Rattle.refusal.specs.declared.Refusal.{Refusal}
 use Rattle.refusal.specs.declared.Refusal.the-variants.{SideIsZero, SideTooLarge, SideNotMultipleOf4}

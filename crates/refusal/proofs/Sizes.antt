@@ -1,5 +1,5 @@
 -- A size that no check refuses is a good one, and no check refuses a good one.
-use mathlib.Core.Path.{_≡_, refl}
+use mathlib.Core.Path.{_≡_}
 use mathlib.Core.Bool.{false}
 use Prim.Native.Nat.{ℕ}
 use Rattle.place.specs.Place.{badSide, badSize}

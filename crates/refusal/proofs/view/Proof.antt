@@ -1,4 +1,4 @@
-use mathlib.Core.Path.{_≡_, sym, _∙_}
+use mathlib.Core.Path.{sym, _∙_}
 use Rattle.refusal.specs.Refusals.{firstOf, bytesChecks}
 use Rattle.refusal.proofs.Firsts.{refused-before, passed-before}
 use borrow.Author.Needs.{needs}

@@ -8,7 +8,6 @@ use Rattle.refusal.specs.declared.Checked.the-variants.{Passed}
 use Rattle.refusal.specs.Refusals.{firstOf, sizeChecks}
 use Rattle.refusal.proofs.Firsts.{refused-before, passed-before}
 use Rattle.refusal.proofs.Sizes.{size-passed}
-use Rattle.dds.specs.Layout.{widthIn, heightIn}
 use Rattle.dds.specs.Checks.{sideChecks, bodyChecks}
 use Rattle.dds.proofs.Headers.{body-near}
 use borrow.Author.Needs.{needs}
