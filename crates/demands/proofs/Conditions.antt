@@ -97,11 +97,15 @@ nan-found s i w =
     let after : i < firstNan s → ⊥ = λ l. clash (w .there) (none-before s i l) in
     omega arith
 
+-- the test of a check, and the lowest NaN
+lowest-there : (s : List Float) → ltb (firstNan s) (length s) ≡ true → LowestNan s (firstNan s)
+lowest-there s t = let h = ltb-true _ _ t in record { within = h; there = nan-there s h; none-lower = none-before s }
+
+lowest-tested : (s : List Float) (i : ℕ) → LowestNan s i → ltb (firstNan s) (length s) ≡ true
+lowest-tested s i w = let found = nan-found s i w in let h = w .within in lt-ltb (firstNan s) (length s) (omega arith)
+
 pub nan-same : (s : List Float) → Same (nanCheck s) (WhenNan s)
-nan-same s q = (
-  λ x. let h = ltb-true _ _ (x .1) in (firstNan s, x .0, record { within = h; there = nan-there s h; none-lower = none-before s }),
-  λ y. let found = nan-found s (y .0) (y .2) in let h = y .2 .within in (y .1 ∙ ap SampleIsNan (sym found), lt-ltb (firstNan s) (length s) (omega arith)),
-)
+nan-same s q = (λ x. (firstNan s, x .0, lowest-there s (x .1)), λ y. (y .1 ∙ ap SampleIsNan (sym (nan-found s (y .0) (y .2))), lowest-tested s (y .0) (y .2)))
 
 -- ---- on a tile of width times height samples: the row and the column that go with an index are one
 module _ (s : List Float) (width height : ℕ) (some : 0 < width) (count : length s ≡ width * height) where
@@ -112,17 +116,16 @@ module _ (s : List Float) (width height : ℕ) (some : 0 < width) (count : lengt
       let column : firstNan s % width ≡ spot .column = rw (here, add-mul-mod-self-right (spot .column) (spot .row) width) (mod-eq-of-lt (w .column-within)) in
       rw (row, column, nan-found s (spot .index) (w .lowest))
 
-  there : firstNan s < length s → LowestTileNan s width height (spotOf width (firstNan s))
-  there h = record {
-    lowest = record { within = h; there = nan-there s h; none-lower = none-before s };
+  there : ltb (firstNan s) (length s) ≡ true → LowestTileNan s width height (spotOf width (firstNan s))
+  there t = record {
+    lowest = lowest-there s t;
     place = sym (div-add-mod' (firstNan s) width);
     column-within = mod-lt (firstNan s) some;
-    row-within = div-lt-iff-lt-mul some .1 (rw (mul-comm height width, ← count) h);
+    row-within = div-lt-iff-lt-mul some .1 (rw (mul-comm height width, ← count) (ltb-true (firstNan s) (length s) t));
   }
 
   pub tile-nan-same : Same (tileNanCheck s width) (WhenTileNan s width height)
   tile-nan-same q = (
-    λ x. (spotOf width (firstNan s), x .0, there (ltb-true _ _ (x .1))),
-    λ y. let found = nan-found s (y .0 .index) (y .2 .lowest) in let h = y .2 .lowest .within in
-        (y .1 ∙ ap TileSampleIsNan (sym (same-spot (y .0) (y .2))), lt-ltb (firstNan s) (length s) (omega arith)),
+    λ x. (spotOf width (firstNan s), x .0, there (x .1)),
+    λ y. (y .1 ∙ ap TileSampleIsNan (sym (same-spot (y .0) (y .2))), lowest-tested s (y .0 .index) (y .2 .lowest)),
   )

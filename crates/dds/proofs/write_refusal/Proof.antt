@@ -1,11 +1,11 @@
 use mathlib.Core.Path.{_≡_, sym, _∙_}
 use borrow.Author.Tests.{lt-ltb, le-ltb}
+use borrow.Author.Needs.{needs}
 use Rattle.place.proofs.Places.{size-small}
 use Rattle.refusal.specs.declared.Checked.the-variants.{Passed}
 use Rattle.refusal.specs.Refusals.{firstOf, bytesChecks}
 use Rattle.refusal.proofs.Firsts.{refused-before, passed-before}
 use Rattle.refusal.proofs.Tiles.{Bytes, bytes-passed}
-use borrow.Author.Needs.{needs}
 use Rattle.dds.proofs.write_refusal.Statement.{statement}
 use Rattle.dds.proofs.write_refusal.Tie as tie
 

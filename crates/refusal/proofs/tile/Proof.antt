@@ -1,13 +1,13 @@
 use mathlib.Core.Path.{_≡_, sym, _∙_}
 use mathlib.Core.Bool.{false}
 use borrow.Author.Tests.{eq-eqb, ne-eqb, lt-ltb, le-ltb}
+use borrow.Author.Needs.{needs}
 use Rattle.place.specs.Place.{badSize}
 use Rattle.place.proofs.Places.{size-good, size-small}
 use Rattle.refusal.specs.declared.Checked.the-variants.{Passed}
 use Rattle.refusal.specs.Refusals.{firstOf, sizeChecks}
 use Rattle.refusal.proofs.Firsts.{refused-before, passed-before}
 use Rattle.refusal.proofs.Sizes.{size-passed}
-use borrow.Author.Needs.{needs}
 use Rattle.refusal.proofs.tile.Statement.{statement}
 use Rattle.refusal.proofs.tile.Tie as tie
 

@@ -1,7 +1,7 @@
 use mathlib.Core.Path.{sym, _∙_}
+use borrow.Author.Needs.{needs}
 use Rattle.refusal.specs.Refusals.{firstOf, bytesChecks}
 use Rattle.refusal.proofs.Firsts.{refused-before, passed-before}
-use borrow.Author.Needs.{needs}
 use Rattle.refusal.proofs.view.Statement.{statement}
 use Rattle.refusal.proofs.view.Tie as tie
 

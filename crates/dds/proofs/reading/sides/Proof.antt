@@ -2,6 +2,7 @@
 use mathlib.Core.Path.{_≡_, sym, _∙_}
 use Prim.Native.Nat.{_*_, _≤_}
 use borrow.Author.Tests.{eq-eqb, ne-eqb}
+use borrow.Author.Needs.{needs}
 use Rattle.place.specs.Place.{longestSide}
 use Rattle.place.proofs.Places.{size-small}
 use Rattle.refusal.specs.declared.Checked.the-variants.{Passed}
@@ -10,7 +11,6 @@ use Rattle.refusal.proofs.Firsts.{refused-before, passed-before}
 use Rattle.refusal.proofs.Sizes.{size-passed}
 use Rattle.dds.specs.Checks.{sideChecks, bodyChecks}
 use Rattle.dds.proofs.Headers.{body-near}
-use borrow.Author.Needs.{needs}
 use Rattle.dds.proofs.reading.sides.Statement.{statement}
 use Rattle.dds.proofs.reading.sides.Tie as tie
 

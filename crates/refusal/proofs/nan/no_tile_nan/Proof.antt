@@ -1,5 +1,5 @@
-use Rattle.refusal.specs.Refusals.{firstOf}
 use borrow.Author.Needs.{needs}
+use Rattle.refusal.specs.Refusals.{firstOf}
 use Rattle.refusal.proofs.nan.no_tile_nan.Statement.{statement}
 use Rattle.refusal.proofs.nan.no_tile_nan.Tie as tie
 

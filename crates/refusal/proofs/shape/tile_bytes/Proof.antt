@@ -1,11 +1,11 @@
 use mathlib.Core.Path.{_≡_, sym, _∙_}
 use borrow.Author.Tests.{eq-eqb, ne-eqb}
+use borrow.Author.Needs.{needs}
 use Rattle.place.proofs.Places.{size-small}
 use Rattle.refusal.specs.declared.Checked.the-variants.{Passed}
 use Rattle.refusal.specs.Refusals.{firstOf, sizeChecks}
 use Rattle.refusal.proofs.Firsts.{refused-before, passed-before}
 use Rattle.refusal.proofs.Sizes.{size-passed}
-use borrow.Author.Needs.{needs}
 use Rattle.refusal.proofs.shape.tile_bytes.Statement.{statement}
 use Rattle.refusal.proofs.shape.tile_bytes.Tie as tie
 

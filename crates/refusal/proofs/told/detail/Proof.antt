@@ -4,11 +4,11 @@ use types.Run.{OneOf, miss}
 use mathlib.Core.Path.{_≡_, refl}
 use mathlib.Core.List.{List, [], _∷_}
 use Prim.Native.Nat.{ℕ}
+use borrow.Author.Needs.{needs}
 use Rattle.refusal.specs.declared.Refusal.{Refusal}
 use Rattle.refusal.specs.declared.Refusal.the-variants.{SideIsZero, SampleCount, EncodedLength, OutputLength, DitheredResend, NoSuchBlock, SampleIsNan, WordMalformed, SideTooLarge, SideNotMultipleOf4, TileSampleIsNan, DdsHeader, DdsBody}
 use Rattle.refusal.proofs.Refusal.{the-type}
 use Rattle.refusal.specs.Refusals.{detailOf}
-use borrow.Author.Needs.{needs}
 use Rattle.refusal.proofs.told.detail.Statement.{statement}
 use Rattle.refusal.proofs.told.detail.Tie as tie
 
