@@ -159,10 +159,7 @@ pub fn block_view(tile: &[u8], width: usize, height: usize, column: usize, row: 
     let checked = view_refusal(tile, width, height, column, row);
     match checked {
         Checked::Refused(_) => &tile[0..0],
-        Checked::Passed => {
-            let at = place::block_at(place::BC4_SIZE, width, column, row);
-            &tile[at..at + place::BC4_SIZE]
-        }
+        Checked::Passed => tile::block_part(place::BC4_SIZE, tile, width, column, row),
     }
 }
 

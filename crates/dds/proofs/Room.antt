@@ -21,5 +21,5 @@ pub room : (long width height most : ℕ) → firstOf (writeChecks long width he
 room long width height most passed =
     let rest = roomCheck most (headerLength + encodedLength bc4Size width height) ∷ [] in
     let both = both-passed (bytesChecks long width height) rest passed in
-    let bytes = bytes-passed long width height (both .0) in
+    let bytes = bytes-passed bc4Size long width height (both .0) in
     record { good = bytes .good; tile = bytes .count; out = ltb-false _ _ (first-clear rest (both .1) .0) }

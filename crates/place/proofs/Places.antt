@@ -2,12 +2,12 @@
 use mathlib.Core.Path.{_≡_, refl, sym, ap}
 use mathlib.Core.Bool.{Bool, true, false, _||_}
 use Prim.Native.Nat.{ℕ, _+_, _*_, _%_, _<_, _≤_}
-use native.Mathlib.Nat.{add-zero, add-mul, mul-le-mul, mul-le-mul-right, mul-comm, mul-assoc, mul-suc, mul-mul-mul-comm, suc-mul, div-eq-of-eq-mul-right, lt-of-mul-lt-mul-left}
+use native.Mathlib.Nat.{add-zero, zero-add, zero-mul, add-mul, mul-le-mul, mul-le-mul-right, mul-comm, mul-assoc, mul-suc, mul-mul-mul-comm, suc-mul, div-eq-of-eq-mul-right, lt-of-mul-lt-mul-left}
 use native.Mathlib.Numerals.{add-one}
 use native.Mathlib.Omega.{arith}
 use lib.Dec.{leb, lit<}
 use borrow.Author.Tests.{ltb-false, leb-false, eqb-false, eqb-true, not-false}
-use Rattle.place.specs.Place.{longestSide, badSide, badSize, along, encodedLength, noBlock, blockAt}
+use Rattle.place.specs.Place.{longestSide, badSide, badSize, along, bc5Size, encodedLength, noBlock, blockAt}
 
 pub neither : (a b : Bool) → a || b ≡ false → (a ≡ false) × (b ≡ false)
 neither true b h = absurd (let z : _≡_ {A = ℕ} 0 1 = cc in omega arith)
@@ -16,6 +16,10 @@ neither false b h = (refl, h)
 -- one more of n still lies within
 pub fits : (k many n : ℕ) → k < many → k * n + n ≤ many * n
 fits k many n h = omega (arith, mul-le-mul-right n h, suc-mul k n)
+
+-- a block of the first row
+pub first-row : (size width column : ℕ) → blockAt size width column 0 ≡ column * size
+first-row size width column = rw (zero-mul (along width), zero-add column) (mul-comm size column)
 
 pub record Side (n : ℕ) : Type 0 where
   pub some : 0 < n
@@ -49,6 +53,10 @@ module _ (width height : ℕ) (good : badSize width height ≡ false) where
   -- so that the area fits a word
   pub size-small : width * height ≤ longestSide * longestSide
   size-small = mul-le-mul (size-good .0 .short) (size-good .1 .short)
+
+  -- and so do the bytes of all blocks
+  pub bytes-small : {size : ℕ} → size ≤ bc5Size → (width * height * size ≤ 16 * longestSide * longestSide) × (encodedLength size width height ≤ longestSide * longestSide)
+  bytes-small most = let bytes = mul-le-mul size-small most in (omega arith, omega arith)
 
   -- the bytes of all blocks, row by row
   pub rows-length : (size : ℕ) → along height * (along width * size) ≡ encodedLength size width height

@@ -24,6 +24,10 @@ along side = side / 4
 abbrev pub bc4Size : ℕ
 bc4Size = 8
 
+-- and of a BC5 block, two of them
+abbrev pub bc5Size : ℕ
+bc5Size = 16
+
 -- the bytes of all blocks: `size` for sixteen samples, of a BC4 tile width * height / 2
 abbrev pub encodedLength : ℕ → ℕ → ℕ → ℕ
 encodedLength size width height = width * height * size / 16

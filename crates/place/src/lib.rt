@@ -9,6 +9,9 @@ pub const LONGEST_SIDE: usize = 1024;
 // The bytes of a BC4 block.
 pub const BC4_SIZE: usize = 8;
 
+// The bytes of a BC5 block: two of BC4.
+pub const BC5_SIZE: usize = 16;
+
 fn bad_side(n: usize) -> bool
     ensures { λ r. ⌜ r ≡ badSide n ⌝ }
 {

@@ -8,17 +8,17 @@ use lib.Ieee.{Float}
 use borrow.Author.Tests.{ltb-false}
 use Rattle.place.specs.Place.{badSize, bc4Size, encodedLength}
 use Rattle.refusal.specs.declared.Checked.the-variants.{Passed}
-use Rattle.refusal.specs.Refusals.{firstOf, firstNan, countCheck, lengthCheck, roomCheck, tileNanCheck, sizeChecks, bytesChecks, tileChecks}
+use Rattle.refusal.specs.Refusals.{firstOf, firstNan, countCheck, lengthCheck, roomCheck, tileNanCheck, sizeChecks, bytesChecksOf, tileChecks}
 use Rattle.refusal.proofs.Firsts.{first-clear, both-passed, same-of}
 use Rattle.refusal.proofs.Sizes.{size-passed}
 
-pub record Bytes (long width height : ℕ) : Type 0 where
+pub record Bytes (size long width height : ℕ) : Type 0 where
   pub good : badSize width height ≡ false
-  pub count : long ≡ encodedLength bc4Size width height
+  pub count : long ≡ encodedLength size width height
 
-pub bytes-passed : (long width height : ℕ) → firstOf (bytesChecks long width height) ≡ Passed → Bytes long width height
-bytes-passed long width height passed =
-    let rest = lengthCheck long (encodedLength bc4Size width height) ∷ [] in
+pub bytes-passed : (size long width height : ℕ) → firstOf (bytesChecksOf size long width height) ≡ Passed → Bytes size long width height
+bytes-passed size long width height passed =
+    let rest = lengthCheck long (encodedLength size width height) ∷ [] in
     let both = both-passed (sizeChecks width height) rest passed in
     record { good = size-passed width height (both .0); count = same-of _ _ (first-clear rest (both .1) .0) }
 

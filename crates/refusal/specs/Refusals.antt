@@ -9,12 +9,14 @@ use lib.Ieee.{Float, isNan}
 use Rattle.options.specs.declared.Options.{Options}
 use Rattle.place.specs.Place.{longestSide, noBlock, bc4Size, encodedLength}
 use Rattle.refusal.specs.declared.Refusal.{Refusal}
-use Rattle.refusal.specs.declared.Refusal.the-variants.{SideIsZero, SampleCount, EncodedLength, OutputLength, DitheredResend, NoSuchBlock, SampleIsNan, WordMalformed, SideTooLarge, SideNotMultipleOf4, TileSampleIsNan, DdsHeader, DdsBody}
+use Rattle.refusal.specs.declared.Refusal.the-variants.{SideIsZero, SampleCount, EncodedLength, OutputLength, DitheredResend, NoSuchBlock, SampleIsNan, WordMalformed, SideTooLarge, SideNotMultipleOf4, TileSampleIsNan, DdsHeader, DdsBody, InChannel}
 use Rattle.refusal.specs.declared.Side.the-variants.{Width, Height}
 use Rattle.refusal.specs.declared.Spot.{Spot}
+use Rattle.refusal.specs.declared.Channel.{Channel}
+use Rattle.refusal.specs.declared.Fault.the-variants.{Count, Nan, TileNan}
 use Rattle.refusal.specs.declared.Checked.{Checked}
 use Rattle.refusal.specs.declared.Checked.the-variants.{Passed, Refused}
-use Rattle.refusal.specs.Names.{numberFor, whatSide, whatOf}
+use Rattle.refusal.specs.Names.{numberFor, whatSide, whatOf, faultNumber, faultDetail}
 
 -- the document's number of a refusal
 abbrev pub numberOf : Refusal → ℕ
@@ -31,10 +33,11 @@ numberOf (SideNotMultipleOf4 side) = 10
 numberOf (TileSampleIsNan spot) = 7
 numberOf (DdsHeader field) = numberFor field
 numberOf DdsBody = 15
+numberOf (InChannel fault) = faultNumber fault
 
 -- What a refusal brings with it, as four numbers: what, index, row and column. Where it has something to say all four are written, 0 for what it says
 -- nothing about; where it has not they stay as they were. Refusals 1, 9 and 10 say the side; 7 says the lowest index, of a tile with its row and column;
--- those of a DDS file's headers say the field.
+-- those of a DDS file's headers say the field; of two channels 2 and 7 say which.
 abbrev pub detailOf : Refusal → List ℕ → List ℕ
 detailOf (SideIsZero side) before = whatSide side ∷ 0 ∷ 0 ∷ 0 ∷ []
 detailOf (SideTooLarge side) before = whatSide side ∷ 0 ∷ 0 ∷ 0 ∷ []
@@ -42,6 +45,7 @@ detailOf (SideNotMultipleOf4 side) before = whatSide side ∷ 0 ∷ 0 ∷ 0 ∷ 
 detailOf (SampleIsNan i) before = 0 ∷ i ∷ 0 ∷ 0 ∷ []
 detailOf (TileSampleIsNan spot) before = 0 ∷ spot .index ∷ spot .row ∷ spot .column ∷ []
 detailOf (DdsHeader field) before = whatOf field ∷ 0 ∷ 0 ∷ 0 ∷ []
+detailOf (InChannel fault) before = faultDetail fault
 detailOf SampleCount before = before
 detailOf EncodedLength before = before
 detailOf OutputLength before = before
@@ -99,6 +103,16 @@ spotOf width i = record { index = i; row = i / width; column = i % width }
 abbrev pub tileNanCheck : List Float → ℕ → Check
 tileNanCheck samples width = when (TileSampleIsNan (spotOf width (firstNan samples))) (ltb (firstNan samples) (length samples))
 
+-- ---- of one of two channels: each applies as it does where there is one, and says the channel besides
+abbrev pub countIn : Channel → List Float → ℕ → Check
+countIn channel samples n = when (InChannel (Count channel)) (countCheck samples n .applies)
+
+abbrev pub nanIn : Channel → List Float → Check
+nanIn channel samples = when (InChannel (Nan channel (firstNan samples))) (nanCheck samples .applies)
+
+abbrev pub tileNanIn : Channel → List Float → ℕ → Check
+tileNanIn channel samples width = when (InChannel (TileNan channel (spotOf width (firstNan samples)))) (tileNanCheck samples width .applies)
+
 -- ---- the checks of a size, which every call that has one makes: by number, and of one number the width before the height
 unfoldable pub sizeChecks : ℕ → ℕ → List Check
 sizeChecks width height =
@@ -106,9 +120,16 @@ sizeChecks width height =
     ∷ when (SideTooLarge Width) (ltb longestSide width) ∷ when (SideTooLarge Height) (ltb longestSide height)
     ∷ when (SideNotMultipleOf4 Width) (not (eqb (width % 4) 0)) ∷ when (SideNotMultipleOf4 Height) (not (eqb (height % 4) 0)) ∷ []
 
--- of the bytes of a tile: its size, and then their count
+-- of the bytes of a tile: its size, and then their count; `size` is the bytes of a block
+abbrev pub bytesChecksOf : ℕ → ℕ → ℕ → ℕ → List Check
+bytesChecksOf size long width height = sizeChecks width height ++ lengthCheck long (encodedLength size width height) ∷ []
+
 abbrev pub bytesChecks : ℕ → ℕ → ℕ → List Check
-bytesChecks long width height = sizeChecks width height ++ lengthCheck long (encodedLength bc4Size width height) ∷ []
+bytesChecks = bytesChecksOf bc4Size
+
+-- of a block of a tile; `long` is the length of the tile
+abbrev pub viewChecksOf : ℕ → ℕ → ℕ → ℕ → ℕ → ℕ → List Check
+viewChecksOf size long width height column row = bytesChecksOf size long width height ++ placeCheck width height column row ∷ []
 
 -- ---- the checks of each call
 abbrev pub encodeChecks : List Float → List Check
@@ -128,9 +149,8 @@ abbrev pub tileChecks : List Float → ℕ → ℕ → ℕ → List Check
 tileChecks samples width height room =
     sizeChecks width height ++ countCheck samples (width * height) ∷ roomCheck room (encodedLength bc4Size width height) ∷ tileNanCheck samples width ∷ []
 
--- `long` is the length of the tile
 abbrev pub viewChecks : ℕ → ℕ → ℕ → ℕ → ℕ → List Check
-viewChecks long width height column row = bytesChecks long width height ++ placeCheck width height column row ∷ []
+viewChecks = viewChecksOf bc4Size
 
 -- a call's checks, and after all of them that of its options word
 abbrev pub andWord : List Check → Bool → List Check

@@ -7,9 +7,12 @@ mod nan;
 mod shape;
 mod told;
 
+pub use nan::no_nan_in;
+pub use nan::no_tile_nan_in;
 use options::Options;
 pub use shape::size;
 pub use shape::tile_bytes;
+pub use shape::view_of;
 pub use told::detail;
 pub use told::number;
 
@@ -18,9 +21,9 @@ pub enum Refusal {
     SideIsZero(Side),
     // The sample count is not 16, or not width * height.
     SampleCount,
-    // The encoded length is not 8, or not width * height / 2.
+    // The encoded length is not that of a block, or not that of the tile's blocks.
     EncodedLength,
-    // The output is shorter than width * height / 2, or than a file of so many bytes.
+    // The output is shorter than the tile's blocks, or than a file of them.
     OutputLength,
     // A resend with dither.
     DitheredResend,
@@ -40,6 +43,24 @@ pub enum Refusal {
     DdsHeader(Field),
     // What follows the headers of a DDS file is not width * height / 2 bytes.
     DdsBody,
+    // The samples of one of two channels are refused, by the number that this has where there is one: the first channel that is wrong, and what is.
+    InChannel(Fault),
+}
+
+// The channels of a block or a tile that has two.
+pub enum Channel {
+    First,
+    Second,
+}
+
+// What the samples of a channel are refused for.
+pub enum Fault {
+    // Number 2.
+    Count(Channel),
+    // Number 7: the lowest index in that channel.
+    Nan(Channel, usize),
+    // Number 7 of a tile: where the one with the lowest index stands in that channel.
+    TileNan(Channel, Spot),
 }
 
 // The sides of a tile.
@@ -144,16 +165,7 @@ pub fn tile(samples: &[f32], width: usize, height: usize, room: usize) -> Checke
 pub fn view(tile: &[u8], width: usize, height: usize, column: usize, row: usize) -> Checked
     ensures { λ r. ⌜ r ≡ firstOf (viewChecks (length (now (tile .entry))) width height column row) ⌝ }
 {
-    let checked = tile_bytes(tile.len(), width, height);
-    match checked {
-        Checked::Refused(q) => Checked::Refused(q),
-        Checked::Passed => {
-            if (column >= width / 4) | (row >= height / 4) {
-                return Checked::Refused(Refusal::NoSuchBlock);
-            }
-            Checked::Passed
-        }
-    }
+    view_of(place::BC4_SIZE, tile.len(), width, height, column, row)
 }
 
 // Of a call whose options word is malformed: what the call refuses for another reason comes first.

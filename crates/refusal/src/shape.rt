@@ -1,8 +1,9 @@
 // The size of a tile: one list of checks, and the function that runs it for every call that has a size.
 ghost use mathlib.Core.Path.{_≡_};
 ghost use mathlib.Core.Bool.{true};
-ghost use Rattle.place.specs.Place.{badSize};
-ghost use Rattle.refusal.specs.Refusals.{firstOf, sizeChecks, bytesChecks};
+ghost use Prim.Native.Nat.{_≤_};
+ghost use Rattle.place.specs.Place.{badSize, bc5Size};
+ghost use Rattle.refusal.specs.Refusals.{firstOf, sizeChecks, bytesChecksOf, bytesChecks, viewChecksOf};
 use crate::Checked;
 use crate::Refusal;
 use crate::Side;
@@ -40,16 +41,47 @@ pub fn size(width: usize, height: usize) -> Checked
     Checked::Passed
 }
 
-// A tile's bytes: its size, and then their count.
-pub fn tile_bytes(long: usize, width: usize, height: usize) -> Checked
-    ensures { λ r. ⌜ r ≡ firstOf (bytesChecks long width height) ⌝ }
+// The bytes of a tile: its size, and then their count. `size` is the bytes of a block, here and below.
+fn bytes_of(size: usize, long: usize, width: usize, height: usize) -> Checked
+    requires { ⌜ size ≤ bc5Size ⌝ }
+    ensures { λ r. ⌜ r ≡ firstOf (bytesChecksOf size long width height) ⌝ }
 {
-    let checked = size(width, height);
+    let checked = crate::size(width, height);
     match checked {
         Checked::Refused(q) => Checked::Refused(q),
         Checked::Passed => {
-            if long != place::encoded_length(place::BC4_SIZE, width, height) {
+            if long != place::encoded_length(size, width, height) {
                 return Checked::Refused(Refusal::EncodedLength);
+            }
+            Checked::Passed
+        }
+    }
+}
+
+pub fn tile_bytes(long: usize, width: usize, height: usize) -> Checked
+    ensures { λ r. ⌜ r ≡ firstOf (bytesChecks long width height) ⌝ }
+{
+    bytes_of(place::BC4_SIZE, long, width, height)
+}
+
+// A block of a tile that has so many bytes.
+pub fn view_of(
+    size: usize,
+    long: usize,
+    width: usize,
+    height: usize,
+    column: usize,
+    row: usize,
+) -> Checked
+    requires { ⌜ size ≤ bc5Size ⌝ }
+    ensures { λ r. ⌜ r ≡ firstOf (viewChecksOf size long width height column row) ⌝ }
+{
+    let checked = bytes_of(size, long, width, height);
+    match checked {
+        Checked::Refused(q) => Checked::Refused(q),
+        Checked::Passed => {
+            if (column >= width / 4) | (row >= height / 4) {
+                return Checked::Refused(Refusal::NoSuchBlock);
             }
             Checked::Passed
         }

@@ -1,7 +1,9 @@
 // What a refusal tells: its number, and what it brings with it.
 ghost use mathlib.Core.Path.{_≡_};
-ghost use Rattle.refusal.specs.Names.{numberFor, whatSide, whatOf};
+ghost use Rattle.refusal.specs.Names.{numberFor, whatSide, whatOf, faultNumber, whatChannel, faultDetail};
 ghost use Rattle.refusal.specs.Refusals.{numberOf, detailOf};
+use crate::Channel;
+use crate::Fault;
 use crate::Field;
 use crate::Refusal;
 use crate::Side;
@@ -52,6 +54,39 @@ fn what_of(field: Field) -> usize
     }
 }
 
+// A channel as a number, for a detail.
+fn what_channel(channel: Channel) -> usize
+    ensures { λ r. ⌜ r ≡ whatChannel channel ⌝ }
+{
+    match channel {
+        Channel::First => 13,
+        Channel::Second => 14,
+    }
+}
+
+// The number of what is wrong in a channel.
+fn fault_number(fault: Fault) -> u8
+    ensures { λ r. ⌜ r ≡ faultNumber fault ⌝ }
+{
+    match fault {
+        Fault::Count(_) => 2,
+        Fault::Nan(_, _) => 7,
+        Fault::TileNan(_, _) => 7,
+    }
+}
+
+fn fault_detail(fault: Fault) -> [usize; 4]
+    ensures { λ r. ⌜ r ≡ faultDetail fault ⌝ }
+{
+    match fault {
+        Fault::Count(channel) => [what_channel(channel), 0, 0, 0],
+        Fault::Nan(channel, i) => [what_channel(channel), i, 0, 0],
+        Fault::TileNan(channel, spot) => {
+            [what_channel(channel), spot.index, spot.row, spot.column]
+        }
+    }
+}
+
 pub fn number(refusal: Refusal) -> u8
     ensures { λ r. ⌜ r ≡ numberOf refusal ⌝ }
 {
@@ -69,6 +104,7 @@ pub fn number(refusal: Refusal) -> u8
         Refusal::TileSampleIsNan(_) => 7,
         Refusal::DdsHeader(field) => number_for(field),
         Refusal::DdsBody => 15,
+        Refusal::InChannel(fault) => fault_number(fault),
     }
 }
 
@@ -94,6 +130,9 @@ pub fn detail(refusal: Refusal, numbers: &mut [usize; 4])
         }
         Refusal::DdsHeader(field) => {
             *numbers = [what_of(field), 0, 0, 0];
+        }
+        Refusal::InChannel(fault) => {
+            *numbers = fault_detail(fault);
         }
         _ => {}
     }

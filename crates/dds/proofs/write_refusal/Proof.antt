@@ -1,6 +1,7 @@
 use mathlib.Core.Path.{_≡_, sym, _∙_}
 use borrow.Author.Tests.{lt-ltb, le-ltb}
 use borrow.Author.Needs.{needs}
+use Rattle.place.specs.Place.{bc4Size}
 use Rattle.place.proofs.Places.{size-small}
 use Rattle.refusal.specs.declared.Checked.the-variants.{Passed}
 use Rattle.refusal.specs.Refusals.{firstOf, bytesChecks}
@@ -21,8 +22,8 @@ enum-told c = search needs
 told : (t : tie.After-enum-told) → let a = t .before .before .before .args in firstOf (bytesChecks (a .long) (a .width) (a .height)) ≡ Passed
 told t = sym (t .before .before .tile-bytes .ensures) ∙ t .enum-told .given .1
 
-bytes : (t : tie.After-enum-told) → let a = t .before .before .before .args in Bytes (a .long) (a .width) (a .height)
-bytes t = bytes-passed _ _ _ (told t)
+bytes : (t : tie.After-enum-told) → let a = t .before .before .before .args in Bytes bc4Size (a .long) (a .width) (a .height)
+bytes t = bytes-passed _ _ _ _ (told t)
 
 add-if1 : tie.Need-add-if1
 add-if1 c = let b = bytes c in let small = size-small _ _ (b .good) in search needs

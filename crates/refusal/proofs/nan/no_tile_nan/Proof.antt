@@ -6,23 +6,16 @@ use Rattle.refusal.proofs.nan.no_tile_nan.Tie as tie
 any-nan-requires : tie.Need-any-nan-requires
 any-nan-requires c κs = search needs
 
-first-nan-requires : tie.Need-first-nan-requires
-first-nan-requires c κs = search needs
-
-div-row : tie.Need-div-row
-div-row c = search needs
-
-rem-column : tie.Need-rem-column
-rem-column c = search needs
+first-spot-requires : tie.Need-first-spot-requires
+first-spot-requires c κs = search needs
 
 returns : tie.Need-returns
 unfolding firstOf
-returns c = rw (← c .before .before .any-nan .ensures, c .before .if1 .taken, ← c .first-nan .ensures)
+returns c = rw (← c .before .before .any-nan .ensures, c .before .if1 .taken, ← c .first-spot .ensures)
 
 returns-2 : tie.Need-returns-2
 unfolding firstOf
 returns-2 c = rw (← c .before .any-nan .ensures, c .if1 .left)
 
 pub no-tile-nan-spec : {M : Type 1} → statement M
-no-tile-nan-spec =
-    tie.close (tie.spec any-nan-requires first-nan-requires div-row rem-column returns returns-2)
+no-tile-nan-spec = tie.close (tie.spec any-nan-requires first-spot-requires returns returns-2)

@@ -6,7 +6,7 @@ use mathlib.Core.List.{List, [], _∷_}
 use Prim.Native.Nat.{ℕ}
 use borrow.Author.Needs.{needs}
 use Rattle.refusal.specs.declared.Refusal.{Refusal}
-use Rattle.refusal.specs.declared.Refusal.the-variants.{SideIsZero, SampleCount, EncodedLength, OutputLength, DitheredResend, NoSuchBlock, SampleIsNan, WordMalformed, SideTooLarge, SideNotMultipleOf4, TileSampleIsNan, DdsHeader, DdsBody}
+use Rattle.refusal.specs.declared.Refusal.the-variants.{SideIsZero, SampleCount, EncodedLength, OutputLength, DitheredResend, NoSuchBlock, SampleIsNan, WordMalformed, SideTooLarge, SideNotMultipleOf4, TileSampleIsNan, DdsHeader, DdsBody, InChannel}
 use Rattle.refusal.proofs.Refusal.{the-type}
 use Rattle.refusal.specs.Refusals.{detailOf}
 use Rattle.refusal.proofs.told.detail.Statement.{statement}
@@ -30,6 +30,7 @@ others (SideNotMultipleOf4 side) h = absurd (miss silent 9 tt h)
 others (TileSampleIsNan spot) h = absurd (miss silent 10 tt h)
 others (DdsHeader field) h = absurd (miss silent 11 tt h)
 others DdsBody h = refl
+others (InChannel fault) h = absurd (miss silent 13 tt h)
 
 enum-known-refusal : tie.Need-enum-known-refusal
 enum-known-refusal c = search needs
@@ -61,6 +62,12 @@ enum-known-refusal-6 c = search needs
 what-of-requires : tie.Need-what-of-requires
 what-of-requires c κs = search needs
 
+enum-known-refusal-7 : tie.Need-enum-known-refusal-7
+enum-known-refusal-7 c = search needs
+
+fault-detail-requires : tie.Need-fault-detail-requires
+fault-detail-requires c κs = search needs
+
 returns : tie.Need-returns
 returns c = rw (c .before .before .before .refusal .given .1, c .before .what-side .ensures)
 
@@ -80,7 +87,10 @@ returns-6 : tie.Need-returns-6
 returns-6 c = rw (c .before .before .before .refusal6 .given .1, c .before .what-of .ensures)
 
 returns-7 : tie.Need-returns-7
-returns-7 c = others (c .before .args .refusal) (c .match .keys7)
+returns-7 c = rw (c .before .before .refusal7 .given .1, c .fault-detail .ensures)
+
+returns-8 : tie.Need-returns-8
+returns-8 c = others (c .before .args .refusal) (c .match .keys8)
 
 pub detail-spec : {M : Type 1} → statement M
 detail-spec =
@@ -96,10 +106,13 @@ detail-spec =
     enum-known-refusal-5
     enum-known-refusal-6
     what-of-requires
+    enum-known-refusal-7
+    fault-detail-requires
     returns
     returns-2
     returns-3
     returns-4
     returns-5
     returns-6
-    returns-7)
+    returns-7
+    returns-8)

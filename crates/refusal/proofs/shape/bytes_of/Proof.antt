@@ -1,13 +1,13 @@
 use mathlib.Core.Path.{_≡_, sym, _∙_}
 use borrow.Author.Tests.{eq-eqb, ne-eqb}
 use borrow.Author.Needs.{needs}
-use Rattle.place.proofs.Places.{size-small}
+use Rattle.place.proofs.Places.{size-small, bytes-small}
 use Rattle.refusal.specs.declared.Checked.the-variants.{Passed}
 use Rattle.refusal.specs.Refusals.{firstOf, sizeChecks}
 use Rattle.refusal.proofs.Firsts.{refused-before, passed-before}
 use Rattle.refusal.proofs.Sizes.{size-passed}
-use Rattle.refusal.proofs.shape.tile_bytes.Statement.{statement}
-use Rattle.refusal.proofs.shape.tile_bytes.Tie as tie
+use Rattle.refusal.proofs.shape.bytes_of.Statement.{statement}
+use Rattle.refusal.proofs.shape.bytes_of.Tie as tie
 
 size-requires : tie.Need-size-requires
 size-requires c κs = search needs
@@ -22,7 +22,7 @@ sized : (t : tie.After-enum-told) → let a = t .before .before .before .args in
 sized t = sym (t .before .before .size .ensures) ∙ t .enum-told .given .1
 
 encoded-length-requires : tie.Need-encoded-length-requires
-encoded-length-requires c κs = let small = size-small _ _ (size-passed _ _ (sized c)) in search needs
+encoded-length-requires c κs = let good = size-passed _ _ (sized c) in (size-small _ _ good, bytes-small _ _ good (c .before .before .before .pre) .0)
 
 returns : tie.Need-returns
 unfolding firstOf
@@ -35,8 +35,8 @@ returns-3 : tie.Need-returns-3
 unfolding firstOf
 returns-3 c = rw (passed-before (sizeChecks _ _) _ (sized (c .before .before)), ← c .before .encoded-length .ensures, eq-eqb _ _ (c .if1 .left))
 
-pub tile-bytes-spec : {M : Type 1} → statement M
-tile-bytes-spec =
+pub bytes-of-spec : {M : Type 1} → statement M
+bytes-of-spec =
     tie.close
     (tie.spec
     size-requires
