@@ -19,6 +19,18 @@ use Rattle.exports.proofs.bc4_encode_tile.Kinds as tile-kinds
 use Rattle.exports.proofs.bc4_encode_tile.Reads as tile
 use Rattle.exports.proofs.bc4_block_view.Kinds as view-kinds
 use Rattle.exports.proofs.bc4_block_view.Reads as view
+use Rattle.exports.proofs.channels.bc5_encode_block.Kinds as pair-encode-kinds
+use Rattle.exports.proofs.channels.bc5_encode_block.Reads as pair-encode
+use Rattle.exports.proofs.channels.bc5_decode_block.Kinds as pair-decode-kinds
+use Rattle.exports.proofs.channels.bc5_decode_block.Reads as pair-decode
+use Rattle.exports.proofs.channels.bc5_block_error.Kinds as pair-error-kinds
+use Rattle.exports.proofs.channels.bc5_block_error.Reads as pair-error
+use Rattle.exports.proofs.channels.bc5_resend.Kinds as pair-resend-kinds
+use Rattle.exports.proofs.channels.bc5_resend.Reads as pair-resend
+use Rattle.exports.proofs.channels.bc5_encode_tile.Kinds as pair-tile-kinds
+use Rattle.exports.proofs.channels.bc5_encode_tile.Reads as pair-tile
+use Rattle.exports.proofs.channels.bc5_block_view.Kinds as pair-view-kinds
+use Rattle.exports.proofs.channels.bc5_block_view.Reads as pair-view
 use Rattle.exports.proofs.bc4_write_dds.Kinds as write-dds-kinds
 use Rattle.exports.proofs.bc4_write_dds.Reads as write-dds
 use Rattle.exports.proofs.bc4_read_dds.Kinds as read-dds-kinds
@@ -62,3 +74,33 @@ write-dds-determined κs a x y s t p q = cc
 pub read-dds-determined : One-outcome 6 read-dds-kinds.ps read-dds-kinds.r read-dds.Post (ℕ × ℕ × ℕ × ℕ × ℕ × List ℕ)
     (λ κs x s. (x, s .1 .0 .now, s .1 .1 .0 .now, s .1 .1 .1 .0 .now, s .1 .1 .1 .1 .0 .now, s .1 .1 .1 .1 .1 .0 .now))
 read-dds-determined κs a x y s t p q = cc
+
+-- ---- two channels. Number, block and detail
+pub pair-encode-determined : One-outcome 4 pair-encode-kinds.ps pair-encode-kinds.r pair-encode.Post (ℕ × List ℕ × List ℕ)
+    (λ κs x s. (x, s .1 .1 .1 .0 .now, s .1 .1 .1 .1 .0 .now))
+pair-encode-determined κs a x y s t p q = cc
+
+-- number, samples of both channels and detail
+pub pair-decode-determined : One-outcome 4 pair-decode-kinds.ps pair-decode-kinds.r pair-decode.Post (ℕ × List Float × List Float × List ℕ)
+    (λ κs x s. (x, s .1 .1 .0 .now, s .1 .1 .1 .0 .now, s .1 .1 .1 .1 .0 .now))
+pair-decode-determined κs a x y s t p q = cc
+
+-- number, both errors and detail
+pub pair-error-determined : One-outcome 5 pair-error-kinds.ps pair-error-kinds.r pair-error.Post (ℕ × List Float × List ℕ)
+    (λ κs x s. (x, s .1 .1 .1 .1 .0 .now, s .1 .1 .1 .1 .1 .0 .now))
+pair-error-determined κs a x y s t p q = cc
+
+-- number, block, both flags and detail
+pub pair-resend-determined : One-outcome 6 pair-resend-kinds.ps pair-resend-kinds.r pair-resend.Post (ℕ × List ℕ × List ℕ × List ℕ)
+    (λ κs x s. (x, s .1 .1 .1 .1 .0 .now, s .1 .1 .1 .1 .1 .0 .now, s .1 .1 .1 .1 .1 .1 .0 .now))
+pair-resend-determined κs a x y s t p q = cc
+
+-- number, every byte of the output, count and detail
+pub pair-tile-determined : One-outcome 5 pair-tile-kinds.ps pair-tile-kinds.r pair-tile.Post (ℕ × List ℕ × ℕ × List ℕ)
+    (λ κs x s. (x, s .1 .1 .1 .1 .1 .0 .now, s .1 .1 .1 .1 .1 .1 .0 .now, s .1 .1 .1 .1 .1 .1 .1 .0 .now))
+pair-tile-determined κs a x y s t p q = cc
+
+-- number, offset and detail
+pub pair-view-determined : One-outcome 3 pair-view-kinds.ps pair-view-kinds.r pair-view.Post (ℕ × ℕ × List ℕ)
+    (λ κs x s. (x, s .1 .1 .1 .1 .1 .0 .now, s .1 .1 .1 .1 .1 .1 .0 .now))
+pair-view-determined κs a x y s t p q = cc

@@ -1,4 +1,4 @@
-// The calls of `bc4` and `dds` for C, and for Rust through bindings/rust: include/bc4.h says what each does. Each answers the number of the refusal, or 0, and
+// The calls of `bc4`, `dds` and `bc5` for C, and for Rust through bindings/rust: include/bc4.h and include/bc5.h say what each does. Each answers the number of the refusal, or 0, and
 // writes its values through references. None asks anything of its arguments: what a pointer and a length must be is the header's to say.
 ghost use mathlib.Core.Path.{_≡_};
 ghost use mathlib.Core.Bool.{cond};
@@ -9,6 +9,9 @@ ghost use Rattle.bc4.specs.Word.{encodeByWord, resendByWord, tileByWord};
 ghost use Rattle.dds.specs.Calls.{writeAnswer, ofWritten, fileAfter, readAnswer, ofFound};
 ghost use Rattle.exports.specs.Border.{wordOfNumber, numberIn, detailAfter, blockAfter, errorAfter, heldAfter, freshAfter, writtenAfter, offsetAfter};
 ghost use Rattle.exports.specs.DdsBorder.{fileWrittenAfter, widthAfter, heightAfter, snormAfter, startAfter};
+
+mod channels;
+
 use bc4::Checked;
 use bc4::Encoded;
 use bc4::Refusal;
@@ -19,12 +22,12 @@ use bc4::word::Word;
 use dds::Found;
 use dds::Written;
 
-// Major, minor and patch number, a byte each: 3.0.0.
+// Major, minor and patch number, a byte each: 3.1.0.
 #[no_mangle]
 pub extern "C" fn bc4_version() -> u32
-    ensures { λ r. ⌜ r ≡ 0x030000 ⌝ }
+    ensures { λ r. ⌜ r ≡ 0x030100 ⌝ }
 {
-    0x030000
+    0x030100
 }
 
 fn word_in(options: u32) -> Word

@@ -1,4 +1,5 @@
 use mathlib.Core.Path.{refl, sym, _∙_}
+use native.Mathlib.Omega.{arith}
 use Rattle.refusal.proofs.Views.{view-room}
 use borrow.Author.Needs.{needs}
 use Rattle.exports.proofs.bc4_block_view.Statement.{statement}
@@ -19,7 +20,7 @@ enum-told c = search needs
 block-at-requires : tie.Need-block-at-requires
 block-at-requires c κs =
     let a = c .before .before .before .before .args in
-    let room = view-room (a .tile .now) (a .width) (a .height) (a .column) (a .row) (sym (c .before .before .view-refusal .ensures) ∙ c .enum-told .given .1) in
+    let room = view-room (omega arith) (a .tile .now) (a .width) (a .height) (a .column) (a .row) (sym (c .before .before .view-refusal .ensures) ∙ c .enum-told .given .1) in
     search needs
 
 returns : tie.Need-returns
