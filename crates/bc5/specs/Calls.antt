@@ -20,6 +20,7 @@ use Rattle.bc4.specs.Calls.{ofTiled, betterOf}
 use Rattle.bc5.specs.declared.Halves.{Halves}
 use Rattle.bc5.specs.declared.Encoded.{Encoded}
 use Rattle.bc5.specs.declared.Encoded.the-variants.{Block, Refused as NotEncoded}
+use Rattle.bc5.specs.declared.Errors.{Errors as BothErrors}
 use Rattle.bc5.specs.declared.Scored.{Scored}
 use Rattle.bc5.specs.declared.Scored.the-variants.{Errors, Refused as NotScored}
 use Rattle.bc5.specs.declared.Kept.{Kept}
@@ -58,11 +59,11 @@ abbrev pub encodeAnswer : List Float → List Float → Options → Encoded
 encodeAnswer first second o = answered NotEncoded (Block (codedOf first second o)) (firstOf (encodeChecks first second))
 
 -- ---- block error, of each channel
+abbrev pub scoresOf : List Float → List Float → List ℕ → Bool → BothErrors
+scoresOf first second encoded snorm = record { first = blockError first (fromBytes (firstHalf encoded)) snorm; second = blockError second (fromBytes (secondHalf encoded)) snorm }
+
 abbrev pub errorAnswer : List Float → List Float → List ℕ → Bool → Scored
-errorAnswer first second encoded snorm =
-    answered NotScored
-    (Errors (record { first = blockError first (fromBytes (firstHalf encoded)) snorm; second = blockError second (fromBytes (secondHalf encoded)) snorm }))
-    (firstOf (errorChecks first second encoded))
+errorAnswer first second encoded snorm = answered NotScored (Errors (scoresOf first second encoded snorm)) (firstOf (errorChecks first second encoded))
 
 -- ---- resend: each half by itself
 abbrev pub keptOf : List Float → List Float → List ℕ → Options → Kept

@@ -12,14 +12,14 @@ use lib.Ieee.{Float, isNan}
 use borrow.Author.Tests.{lt-ltb, ltb-true, le-leb, leb-true, eq-eqb, eqb-true, ne-eqb, eqb-false, not-true}
 use Rattle.floats.proofs.Tests.{clash}
 use Rattle.block.specs.Samples.{pixelAt}
-use Rattle.place.specs.Place.{longestSide, badSide, badSize, along, noBlock, bc4Size, encodedLength}
+use Rattle.place.specs.Place.{longestSide, badSide, badSize, along, noBlock, bc4Size, bc5Size, encodedLength}
 use Rattle.refusal.specs.declared.Refusal.{Refusal}
 use Rattle.refusal.specs.declared.Refusal.the-variants.{SampleIsNan, TileSampleIsNan}
 use Rattle.refusal.specs.declared.Spot.{Spot}
 use Rattle.refusal.specs.Refusals.{when, firstNan, nanCheck, spotOf, tileNanCheck}
 use Rattle.bc4.specs.Word.{wordOf}
 use Rattle.demands.specs.Exactly.{When, Iff}
-use Rattle.demands.specs.Conditions.{BadSide, Missing, BadWord, LowestNan, WhenNan, LowestTileNan, WhenTileNan}
+use Rattle.demands.specs.Conditions.{BadSide, Missing, BadWord, LowestNan, WhenNanSaid, WhenNan, LowestTileNan, WhenTileNanSaid, WhenTileNan}
 use Rattle.demands.proofs.Refusing.{Same}
 
 pub when-same : {refusal : Refusal} {t : Bool} {P : Type 0} → Iff (t ≡ true) P → Same (when refusal t) (When refusal P)
@@ -59,6 +59,16 @@ output-iff room width height = rw (half width height) (below-iff room (width * h
 
 pub encoded-iff : (long width height : ℕ) → Iff (not (eqb long (encodedLength bc4Size width height)) ≡ true) (long ≡ width * height / 2 → ⊥)
 encoded-iff long width height = rw (half width height) (unequal-iff long (width * height / 2))
+
+-- and of one of two channels
+pub whole : (width height : ℕ) → encodedLength bc5Size width height ≡ width * height
+whole width height = omega arith
+
+pub pair-output-iff : (room width height : ℕ) → Iff (ltb room (encodedLength bc5Size width height) ≡ true) (room < width * height)
+pair-output-iff room width height = rw (whole width height) (below-iff room (width * height))
+
+pub pair-encoded-iff : (long width height : ℕ) → Iff (not (eqb long (encodedLength bc5Size width height)) ≡ true) (long ≡ width * height → ⊥)
+pair-encoded-iff long width height = rw (whole width height) (unequal-iff long (width * height))
 
 pub size-iff : (width height : ℕ) → Iff (badSize width height ≡ true) (BadSide width ⊎ BadSide height)
 unfolding badSize
@@ -104,8 +114,11 @@ lowest-there s t = let h = ltb-true _ _ t in record { within = h; there = nan-th
 lowest-tested : (s : List Float) (i : ℕ) → LowestNan s i → ltb (firstNan s) (length s) ≡ true
 lowest-tested s i w = let found = nan-found s i w in let h = w .within in lt-ltb (firstNan s) (length s) (omega arith)
 
+pub nan-said : (said : ℕ → Refusal) (s : List Float) → Same (when (said (firstNan s)) (nanCheck s .applies)) (WhenNanSaid said s)
+nan-said said s q = (λ x. (firstNan s, x .0, lowest-there s (x .1)), λ y. (y .1 ∙ ap said (sym (nan-found s (y .0) (y .2))), lowest-tested s (y .0) (y .2)))
+
 pub nan-same : (s : List Float) → Same (nanCheck s) (WhenNan s)
-nan-same s q = (λ x. (firstNan s, x .0, lowest-there s (x .1)), λ y. (y .1 ∙ ap SampleIsNan (sym (nan-found s (y .0) (y .2))), lowest-tested s (y .0) (y .2)))
+nan-same = nan-said SampleIsNan
 
 -- ---- on a tile of width times height samples: the row and the column that go with an index are one
 module _ (s : List Float) (width height : ℕ) (some : 0 < width) (count : length s ≡ width * height) where
@@ -124,8 +137,11 @@ module _ (s : List Float) (width height : ℕ) (some : 0 < width) (count : lengt
     row-within = div-lt-iff-lt-mul some .1 (rw (mul-comm height width, ← count) (ltb-true (firstNan s) (length s) t));
   }
 
-  pub tile-nan-same : Same (tileNanCheck s width) (WhenTileNan s width height)
-  tile-nan-same q = (
+  pub tile-nan-said : (said : Spot → Refusal) → Same (when (said (spotOf width (firstNan s))) (tileNanCheck s width .applies)) (WhenTileNanSaid said s width height)
+  tile-nan-said said q = (
     λ x. (spotOf width (firstNan s), x .0, there (x .1)),
-    λ y. (y .1 ∙ ap TileSampleIsNan (sym (same-spot (y .0) (y .2))), lowest-tested s (y .0 .index) (y .2 .lowest)),
+    λ y. (y .1 ∙ ap said (sym (same-spot (y .0) (y .2))), lowest-tested s (y .0 .index) (y .2 .lowest)),
   )
+
+  pub tile-nan-same : Same (tileNanCheck s width) (WhenTileNan s width height)
+  tile-nan-same = tile-nan-said TileSampleIsNan

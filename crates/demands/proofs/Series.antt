@@ -72,7 +72,7 @@ unfolding series
 series-bytes s held all [] = all
 series-bytes s held all (o ∷ os) = series-bytes s (heldAfter held (resendAnswer s held o)) (next-bytes s held all o) os
 
-series-after : (s : List Float) (held : List ℕ) (os ps : List Options) → series s held (os ++ ps) ≡ series s (series s held os) ps
+pub series-after : (s : List Float) (held : List ℕ) (os ps : List Options) → series s held (os ++ ps) ≡ series s (series s held os) ps
 unfolding series
 series-after s held [] ps = refl
 series-after s held (o ∷ os) ps = series-after s (heldAfter held (resendAnswer s held o)) os ps

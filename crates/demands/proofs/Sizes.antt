@@ -8,16 +8,16 @@ use native.Mathlib.Omega.{arith}
 use lib.Dec.{eqb}
 use lib.ListN.{length}
 use Rattle.floats.proofs.Tests.{clash}
-use Rattle.place.specs.Place.{longestSide, badSize}
+use Rattle.place.specs.Place.{longestSide, badSize, bc5Size}
 use Rattle.refusal.specs.declared.Refusal.{Refusal}
 use Rattle.refusal.specs.declared.Refusal.the-variants.{EncodedLength}
-use Rattle.refusal.specs.Refusals.{firstOf, sizeChecks, bytesChecks}
+use Rattle.refusal.specs.Refusals.{firstOf, sizeChecks, bytesChecksOf, bytesChecks}
 use Rattle.refusal.proofs.Sizes.{size-passed, good-passes}
 use Rattle.demands.specs.Exactly.{WhenUnequal, Iff, AnyOf}
 use Rattle.demands.specs.Conditions.{BadSide, NoMultipleOf4, SizeRefuses}
 use Rattle.demands.specs.Sizes.{Sizes}
 use Rattle.demands.proofs.Refusing.{Alike, end, then, together, exactly, in-order}
-use Rattle.demands.proofs.Conditions.{when-same, equal-iff, unequal-iff, below-iff, encoded-iff, size-iff}
+use Rattle.demands.proofs.Conditions.{when-same, equal-iff, unequal-iff, below-iff, encoded-iff, pair-encoded-iff, size-iff}
 
 multiple-iff : (n : ℕ) → Iff (not (eqb (n % 4) 0) ≡ true) (NoMultipleOf4 n)
 multiple-iff n = let i = unequal-iff (n % 4) 0 in (λ e k same. i .0 e (omega arith), λ none. i .1 (λ even. none (n / 4) (omega arith)))
@@ -47,6 +47,10 @@ module _ (width height : ℕ) where
 pub bytes-alike : (tile : List ℕ) (width height : ℕ)
     → Alike (bytesChecks (length tile) width height) (SizeRefuses width height ++ WhenUnequal EncodedLength (length tile) (width * height / 2) ∷ [])
 bytes-alike tile width height = together (size-alike width height) (then (when-same (encoded-iff (length tile) width height)) end)
+
+pub pair-bytes-alike : (tile : List ℕ) (width height : ℕ)
+    → Alike (bytesChecksOf bc5Size (length tile) width height) (SizeRefuses width height ++ WhenUnequal EncodedLength (length tile) (width * height) ∷ [])
+pair-bytes-alike tile width height = together (size-alike width height) (then (when-same (pair-encoded-iff (length tile) width height)) end)
 
 pub sizes : Sizes
 unfolding firstOf sizeChecks

@@ -8,6 +8,7 @@ use lib.ListN.{length}
 use lib.Ieee.{Float, isNan}
 use Rattle.block.specs.Samples.{pixelAt}
 use Rattle.fields.specs.Fields.{fieldAt}
+use Rattle.refusal.specs.declared.Refusal.{Refusal}
 use Rattle.refusal.specs.declared.Refusal.the-variants.{SideIsZero, SampleIsNan, TileSampleIsNan, SideTooLarge, SideNotMultipleOf4, DdsHeader}
 use Rattle.refusal.specs.declared.Side.the-variants.{Width, Height}
 use Rattle.refusal.specs.declared.Spot.{Spot}
@@ -34,8 +35,12 @@ pub record LowestNan (samples : List Float) (i : ℕ) : Type 0 where
 abbrev pub BadWord : ℕ → ℕ → Type 0
 BadWord quality last = (2 < quality) ⊎ (last ≡ 0 → ⊥)
 
+-- `said` is the refusal that says the index
+abbrev pub WhenNanSaid : (ℕ → Refusal) → List Float → Condition
+WhenNanSaid said samples q = (i : ℕ) × (q ≡ said i) × LowestNan samples i
+
 abbrev pub WhenNan : List Float → Condition
-WhenNan samples q = (i : ℕ) × (q ≡ SampleIsNan i) × LowestNan samples i
+WhenNan = WhenNanSaid SampleIsNan
 
 -- ---- document 02, 2/12: what is wrong with a size
 abbrev pub NoMultipleOf4 : ℕ → Type 0
@@ -55,8 +60,11 @@ pub record LowestTileNan (samples : List Float) (width height : ℕ) (spot : Spo
   pub column-within : spot .column < width
   pub row-within : spot .row < height
 
+abbrev pub WhenTileNanSaid : (Spot → Refusal) → List Float → ℕ → ℕ → Condition
+WhenTileNanSaid said samples width height q = (spot : Spot) × (q ≡ said spot) × LowestTileNan samples width height spot
+
 abbrev pub WhenTileNan : List Float → ℕ → ℕ → Condition
-WhenTileNan samples width height q = (spot : Spot) × (q ≡ TileSampleIsNan spot) × LowestTileNan samples width height spot
+WhenTileNan = WhenTileNanSaid TileSampleIsNan
 
 -- ---- document 02, 1/12: DDS files
 -- four bytes of a file as a number, and its four characters

@@ -1,5 +1,5 @@
 -- Demand 1: a refusal is exactly the numbered one of its call's table, and changes no byte of a lent buffer. Each call has its conditions as a list, in the
--- order in which they are looked at; the answers are those that the contracts of `bc4` and `dds` cite. That every call ends with an answer, for every input, is what a contract
+-- order in which they are looked at; the answers are those that the contracts of `bc4`, `bc5` and `dds` cite. That every call ends with an answer, for every input, is what a contract
 -- without `requires` says.
 use mathlib.Core.Path.{_≡_}
 use mathlib.Core.Bool.{Bool, true}
@@ -17,11 +17,15 @@ use Rattle.dds.specs.declared.Written.the-variants.{Refused as NotWritten}
 use Rattle.refusal.specs.Refusals.{firstOf, decodeChecks, viewChecks}
 use Rattle.bc4.specs.Word.{wordOf, encodeByWord, resendByWord, tileByWord}
 use Rattle.bc4.specs.Calls.{ofEncoded, ofScored, ofResent, ofTiled, encodeAnswer, samplesAfter, errorAnswer, resendAnswer, tileAnswer, outAfter, viewOf}
+use Rattle.bc5.specs.Checks.{decodeChecks as pairDecodeChecks, viewChecks as pairViewChecks}
+use Rattle.bc5.specs.Word.{encodeByWord as pairEncodeByWord, resendByWord as pairResendByWord, tileByWord as pairTileByWord}
+use Rattle.bc5.specs.Calls.{ofEncoded as ofPairEncoded, ofScored as ofPairScored, ofResent as ofPairResent, encodeAnswer as pairEncodeAnswer, errorAnswer as pairErrorAnswer, resendAnswer as pairResendAnswer, tileAnswer as pairTileAnswer, outAfter as pairOutAfter, viewOf as pairViewOf}
 use Rattle.dds.specs.Layout.{ddsMagic, bc4u, bc4s, dx10}
 use Rattle.dds.specs.Checks.{readChecks}
 use Rattle.dds.specs.Calls.{ofWritten, ofFound, writeAnswer, fileAfter, readAnswer, bodyOf}
 use Rattle.demands.specs.Exactly.{Condition, When, WhenUnequal, Exactly, InNumberOrder}
 use Rattle.demands.specs.Conditions.{Missing, BadWord, WhenNan, SizeRefuses, WhenTileNan, field, four, WhenWrong, NoneOf, CubeFace, BadBody}
+use Rattle.demands.specs.Channels.{PairEncodeRefuses, PairDecodeRefuses, PairErrorRefuses, PairResendRefuses, PairTileRefuses, PairViewRefuses}
 
 -- ---- which conditions each call looks at, and in which order. Encode: 2, 7
 abbrev pub EncodeRefuses : List Float → List Condition
@@ -89,18 +93,42 @@ pub record Demand1 : Type 0 where
   pub tile-word : (samples : List Float) (width height : ℕ) (out : List ℕ) (flags limit quality last : ℕ)
       → Exactly (ofTiled (tileByWord samples width height (wordOf flags limit quality last) (length out)))
       (ThenBadWord (TileRefuses samples width height out) quality last)
+  -- two channels
+  pub pair-encode : (first second : List Float) (o : Options) → InNumberOrder (ofPairEncoded (pairEncodeAnswer first second o)) (PairEncodeRefuses first second)
+  pub pair-decode : (encoded : List ℕ) → InNumberOrder (firstOf (pairDecodeChecks encoded)) (PairDecodeRefuses encoded)
+  pub pair-error : (first second : List Float) (encoded : List ℕ) (snorm : Bool)
+      → InNumberOrder (ofPairScored (pairErrorAnswer first second encoded snorm)) (PairErrorRefuses first second encoded)
+  pub pair-resend : (first second : List Float) (held : List ℕ) (o : Options)
+      → InNumberOrder (ofPairResent (pairResendAnswer first second held o)) (PairResendRefuses first second held o)
+  pub pair-tile : (first second : List Float) (width height : ℕ) (out : List ℕ)
+      → Exactly (ofTiled (pairTileAnswer first second width height (length out))) (PairTileRefuses first second width height out)
+  pub pair-view : (tile : List ℕ) (width height column row : ℕ)
+      → Exactly (firstOf (pairViewChecks (length tile) width height column row)) (PairViewRefuses tile width height column row)
+  pub pair-encode-word : (first second : List Float) (flags limit quality last : ℕ)
+      → InNumberOrder (ofPairEncoded (pairEncodeByWord first second (wordOf flags limit quality last))) (ThenBadWord (PairEncodeRefuses first second) quality last)
+  pub pair-resend-word : (first second : List Float) (held : List ℕ) (flags limit quality last : ℕ)
+      → let w = wordOf flags limit quality last in
+      InNumberOrder (ofPairResent (pairResendByWord first second held w)) (ThenBadWord (PairResendRefuses first second held (w .options)) quality last)
+  pub pair-tile-word : (first second : List Float) (width height : ℕ) (out : List ℕ) (flags limit quality last : ℕ)
+      → Exactly (ofTiled (pairTileByWord first second width height (wordOf flags limit quality last) (length out)))
+      (ThenBadWord (PairTileRefuses first second width height out) quality last)
   -- DDS files
   pub write-dds : (tile : List ℕ) (width height : ℕ) (out : List ℕ)
       → Exactly (ofWritten (writeAnswer (length tile) width height (length out))) (WriteRefuses tile width height out)
   pub read-dds : (file : List ℕ) → Exactly (ofFound (readAnswer file)) (ReadRefuses file)
   -- the companion of a read tells the same refusal
   pub read-dds-refusal : (file : List ℕ) → firstOf (readChecks file) ≡ ofFound (readAnswer file)
-  -- a refused call leaves lent memory as it was, a tile call by word too (`outAfter` of the word's options), and a refused view is empty
+  -- a refused call leaves lent memory as it was, a tile call by word too (`outAfter` of the word's options), and a refused view is empty;
+  -- `decode-leaves` is for both channels' arrays too
   pub decode-leaves : (q : Refusal) (encoded : List ℕ) (snorm : Bool) (before : List Float) → samplesAfter (Refused q) encoded snorm before ≡ before
   pub tile-leaves : (q : Refusal) (samples : List Float) (width height : ℕ) (o : Options) (before : List ℕ)
       → outAfter (NotTiled q) samples width height o before ≡ before
   pub view-empty : (q : Refusal) (tile : List ℕ) (width height column row : ℕ)
       → firstOf (viewChecks (length tile) width height column row) ≡ Refused q → viewOf tile width height column row ≡ []
+  pub pair-tile-leaves : (q : Refusal) (first second : List Float) (width height : ℕ) (o : Options) (before : List ℕ)
+      → pairOutAfter (NotTiled q) first second width height o before ≡ before
+  pub pair-view-empty : (q : Refusal) (tile : List ℕ) (width height column row : ℕ)
+      → firstOf (pairViewChecks (length tile) width height column row) ≡ Refused q → pairViewOf tile width height column row ≡ []
   pub write-dds-leaves : (q : Refusal) (tile : List ℕ) (width height : ℕ) (snorm : Bool) (before : List ℕ)
       → fileAfter (NotWritten q) tile width height snorm before ≡ before
   pub read-dds-empty : (q : Refusal) (file : List ℕ) → firstOf (readChecks file) ≡ Refused q → bodyOf file ≡ []

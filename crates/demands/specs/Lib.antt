@@ -1,9 +1,11 @@
 pub mod Exactly
 pub mod Conditions
 pub mod Sizes
+pub mod Channels
 pub mod Demand1
 pub mod Demand2
 pub mod Demand3
+pub mod TwoChannels
 pub mod EncoderSteps
 pub mod WorkedValues
 pub mod Literals
