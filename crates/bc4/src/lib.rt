@@ -113,7 +113,8 @@ pub fn resend(samples: &[f32], held: &[u8], o: Options) -> Resent
     }
 }
 
-fn better(b: &[f32; 16], held: u64, o: Options) -> Kept
+// Of samples that were checked: the choice of a resend.
+pub fn better(b: &[f32; 16], held: u64, o: Options) -> Kept
     ensures { λ r. ⌜ r ≡ betterOf (now (b .entry)) held o ⌝ }
 {
     let fresh = encode::compress_bc4_block(b, o);

@@ -1,2 +1,2 @@
-pub mod Each
+pub mod Counts
 pub mod Determined

@@ -1,12 +1,9 @@
 // Two channels, as a current map has them: document 02, 3/12. A block is sixteen bytes, the first channel's BC4 block and then the second's. A call looks at
-// both channels before it makes either half; each half is then what `bc4` answers for its channel.
+// both channels before it makes either half; each half is made by the function that makes it for `bc4`.
 ghost use mathlib.Core.Path.{_≡_};
 ghost use lib.ListN.{length};
-ghost use Rattle.index_list.specs.Layout.{fromBytes};
-ghost use Rattle.encode.specs.Encoder.{compressed};
-ghost use Rattle.decode.specs.BlockError.{blockError};
-ghost use Rattle.refusal.specs.Refusals.{firstOf, encodeChecks as oneEncodeChecks, errorChecks as oneErrorChecks, resendChecks as oneResendChecks};
-ghost use Rattle.bc4.specs.Calls.{samplesAfter, betterOf};
+ghost use Rattle.refusal.specs.Refusals.{firstOf};
+ghost use Rattle.bc4.specs.Calls.{samplesAfter};
 ghost use Rattle.bc5.specs.Checks.{decodeChecks, viewChecks};
 ghost use Rattle.bc5.specs.Calls.{firstHalf, secondHalf, halvesBytes, encodeAnswer, errorAnswer, resendAnswer, tileAnswer, outAfter, viewOf};
 
@@ -80,43 +77,6 @@ pub fn bytes(block: Halves) -> [u8; 16]
     ]
 }
 
-// ---- one channel that BC4 does not refuse; the other arm of each match is never taken
-fn half_coded(samples: &[f32], o: Options) -> u64
-    requires { ⌜ firstOf (oneEncodeChecks (now samples)) ≡ Checked.Passed ⌝ }
-    ensures { λ r. ⌜ r ≡ compressed (now (samples .entry)) o ⌝ }
-{
-    let answer = bc4::encode_block(samples, o);
-    match answer {
-        bc4::Encoded::Block(block) => block,
-        bc4::Encoded::Refused(_) => 0,
-    }
-}
-
-fn half_scored(samples: &[f32], half: &[u8], snorm: bool) -> f32
-    requires { ⌜ firstOf (oneErrorChecks (now samples) (now half)) ≡ Checked.Passed ⌝ }
-    ensures { λ r. ⌜ r ≡ blockError (now (samples .entry)) (fromBytes (now (half .entry))) snorm ⌝ }
-{
-    let answer = bc4::block_error(samples, half, snorm);
-    match answer {
-        bc4::Scored::Error(error) => error,
-        bc4::Scored::Refused(_) => 0.0,
-    }
-}
-
-fn half_kept(samples: &[f32], half: &[u8], o: Options) -> bc4::Kept
-    requires { ⌜ firstOf (oneResendChecks (now samples) (now half) o) ≡ Checked.Passed ⌝ }
-    ensures { λ r. ⌜ r ≡ betterOf (now (samples .entry)) (fromBytes (now (half .entry))) o ⌝ }
-{
-    let answer = bc4::resend(samples, half, o);
-    match answer {
-        bc4::Resent::Block(h) => h,
-        bc4::Resent::Refused(_) => bc4::Kept {
-            block: 0,
-            fresh: false,
-        },
-    }
-}
-
 pub fn encode_block(first: &[f32], second: &[f32], o: Options) -> Encoded
     ensures { λ r. ⌜ r ≡ encodeAnswer (now (first .entry)) (now (second .entry)) o ⌝ }
 {
@@ -124,9 +84,11 @@ pub fn encode_block(first: &[f32], second: &[f32], o: Options) -> Encoded
     match checked {
         Checked::Refused(q) => Encoded::Refused(q),
         Checked::Passed => {
+            let a = place::gather(first, 4, 0, 0);
+            let b = place::gather(second, 4, 0, 0);
             Encoded::Block(Halves {
-                first: half_coded(first, o),
-                second: half_coded(second, o),
+                first: encode::compress_bc4_block(&a, o),
+                second: encode::compress_bc4_block(&b, o),
             })
         }
     }
@@ -147,8 +109,9 @@ pub fn decode_block(
     match checked {
         Checked::Refused(q) => Checked::Refused(q),
         Checked::Passed => {
-            bc4::decode_block(&encoded[0..8], snorm, first);
-            bc4::decode_block(&encoded[8..16], snorm, second)
+            decode::decode_into(index_list::from_bytes(&encoded[0..8]), snorm, first);
+            decode::decode_into(index_list::from_bytes(&encoded[8..16]), snorm, second);
+            Checked::Passed
         }
     }
 }
@@ -160,9 +123,11 @@ pub fn block_error(first: &[f32], second: &[f32], encoded: &[u8], snorm: bool) -
     match checked {
         Checked::Refused(q) => Scored::Refused(q),
         Checked::Passed => {
+            let a = place::gather(first, 4, 0, 0);
+            let b = place::gather(second, 4, 0, 0);
             Scored::Errors(Errors {
-                first: half_scored(first, &encoded[0..8], snorm),
-                second: half_scored(second, &encoded[8..16], snorm),
+                first: decode::block_error(&a, index_list::from_bytes(&encoded[0..8]), snorm),
+                second: decode::block_error(&b, index_list::from_bytes(&encoded[8..16]), snorm),
             })
         }
     }
@@ -176,9 +141,11 @@ pub fn resend(first: &[f32], second: &[f32], held: &[u8], o: Options) -> Resent
     match checked {
         Checked::Refused(q) => Resent::Refused(q),
         Checked::Passed => {
+            let a = place::gather(first, 4, 0, 0);
+            let b = place::gather(second, 4, 0, 0);
             Resent::Block(Kept {
-                first: half_kept(first, &held[0..8], o),
-                second: half_kept(second, &held[8..16], o),
+                first: bc4::better(&a, index_list::from_bytes(&held[0..8]), o),
+                second: bc4::better(&b, index_list::from_bytes(&held[8..16]), o),
             })
         }
     }

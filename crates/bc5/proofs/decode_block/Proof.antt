@@ -1,8 +1,7 @@
-use mathlib.Core.Path.{_≡_, refl, sym, _∙_}
-use Rattle.refusal.specs.declared.Checked.the-variants.{Passed}
-use Rattle.refusal.specs.Refusals.{firstOf}
-use Rattle.bc5.specs.Checks.{decodeChecks}
-use Rattle.bc5.proofs.Each.{DecodeEach, decode-each}
+use mathlib.Core.Path.{_≡_, refl}
+use lib.ListN.{length}
+use Rattle.place.specs.Place.{bc5Size}
+use Rattle.refusal.proofs.Firsts.{passed-clear, same-of}
 use borrow.Author.Needs.{needs}
 use Rattle.bc5.proofs.decode_block.Statement.{statement}
 use Rattle.bc5.proofs.decode_block.Tie as tie
@@ -16,48 +15,46 @@ enum-known-checked c = search needs
 enum-told : tie.Need-enum-told
 enum-told c = search needs
 
-sub-decode-block : tie.Need-sub-decode-block
-sub-decode-block c = search needs
+sub-from-bytes : tie.Need-sub-from-bytes
+sub-from-bytes c = search needs
 
-part-decode-block-start : tie.Need-part-decode-block-start
-part-decode-block-start c = search needs
+part-from-bytes-start : tie.Need-part-from-bytes-start
+part-from-bytes-start c = search needs
 
-passed : (t : tie.After-enum-told) → let a = t .before .before .before .before .args in firstOf (decodeChecks (a .encoded .now)) ≡ Passed
-passed t = sym (t .before .before .decode .ensures) ∙ t .enum-told .given .1
+long : (t : tie.After-enum-told) → length (t .before .before .before .before .args .encoded .now) ≡ bc5Size
+long t = same-of _ _ (passed-clear _ (t .before .before .decode .ensures) (t .enum-told .given .1) .0)
 
-each : (t : tie.After-enum-told) → let a = t .before .before .before .before .args in DecodeEach (a .encoded .now)
-each t = let a = t .before .before .before .before .args in decode-each (a .encoded .now) (passed t)
+part-from-bytes-end : tie.Need-part-from-bytes-end
+part-from-bytes-end c = let l = long c in search needs
 
-part-decode-block-end : tie.Need-part-decode-block-end
-part-decode-block-end c = let long = each c .0 in search needs
+from-bytes-requires : tie.Need-from-bytes-requires
+from-bytes-requires c κs = search needs
 
-decode-block-requires : tie.Need-decode-block-requires
-decode-block-requires c κs = search needs
+decode-into-requires : tie.Need-decode-into-requires
+decode-into-requires c κs = search needs
 
-sub-decode-block-2 : tie.Need-sub-decode-block-2
-sub-decode-block-2 c = search needs
+sub-from-bytes-2 : tie.Need-sub-from-bytes-2
+sub-from-bytes-2 c = search needs
 
-part-decode-block-start-2 : tie.Need-part-decode-block-start-2
-part-decode-block-start-2 c = search needs
+part-from-bytes-start-2 : tie.Need-part-from-bytes-start-2
+part-from-bytes-start-2 c = search needs
 
-part-decode-block-end-2 : tie.Need-part-decode-block-end-2
-part-decode-block-end-2 c = let long = each (c .before .before .before) .0 in search needs
+part-from-bytes-end-2 : tie.Need-part-from-bytes-end-2
+part-from-bytes-end-2 c = let l = long (c .before .before .before .before) in search needs
 
-decode-block-requires-2 : tie.Need-decode-block-requires-2
-decode-block-requires-2 c κs = search needs
+from-bytes-requires-2 : tie.Need-from-bytes-requires-2
+from-bytes-requires-2 c κs = search needs
+
+decode-into-requires-2 : tie.Need-decode-into-requires-2
+decode-into-requires-2 c κs = search needs
 
 returns : tie.Need-returns
 returns c = (rw (← c .before .before .before .decode .ensures, c .before .checked .given .1), (refl, refl))
 
 returns-2 : tie.Need-returns-2
 returns-2 c =
-    let t = c .before .before .before .before .before .before in
-    let halves = each t in
-    let one = c .before .before .before .decode-block .ensures in
-    let two = c .decode-block2 .ensures in
-    let first-passed = one .0 ∙ halves .1 in
-    let second-passed = two .0 ∙ halves .2 in
-    (second-passed ∙ sym (passed t), (rw second-passed (rw first-passed at (one .1)), two .1))
+    let t = c .before .before .before .before .before .before .before .before in
+    (rw (← t .before .before .decode .ensures, t .enum-told .given .1), (rw (c .before .before .before .before .decode-into .ensures, c .before .before .before .before .before .before .from-bytes .ensures), rw (c .decode-into2 .ensures, c .before .before .from-bytes2 .ensures)))
 
 pub decode-block-spec : {M : Type 1} → statement M
 decode-block-spec =
@@ -66,13 +63,15 @@ decode-block-spec =
     decode-requires
     enum-known-checked
     enum-told
-    sub-decode-block
-    part-decode-block-start
-    part-decode-block-end
-    decode-block-requires
-    sub-decode-block-2
-    part-decode-block-start-2
-    part-decode-block-end-2
-    decode-block-requires-2
+    sub-from-bytes
+    part-from-bytes-start
+    part-from-bytes-end
+    from-bytes-requires
+    decode-into-requires
+    sub-from-bytes-2
+    part-from-bytes-start-2
+    part-from-bytes-end-2
+    from-bytes-requires-2
+    decode-into-requires-2
     returns
     returns-2)

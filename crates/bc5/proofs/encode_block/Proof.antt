@@ -1,5 +1,8 @@
 use mathlib.Core.Path.{sym, _∙_}
-use Rattle.bc5.proofs.Each.{EncodeEach, encode-each}
+use native.Mathlib.Omega.{arith}
+use Rattle.place.proofs.Samples.{blockOf-whole}
+use Rattle.bc5.specs.Checks.{nanChecks}
+use Rattle.bc5.proofs.Counts.{BothSixteen, both-sixteen}
 use borrow.Author.Needs.{needs}
 use Rattle.bc5.proofs.encode_block.Statement.{statement}
 use Rattle.bc5.proofs.encode_block.Tie as tie
@@ -13,20 +16,29 @@ enum-known-checked c = search needs
 enum-told : tie.Need-enum-told
 enum-told c = search needs
 
-each : (t : tie.After-enum-told) → let a = t .before .before .before .before .before .args in EncodeEach (a .first .now) (a .second .now)
-each t = let a = t .before .before .before .before .before .args in encode-each (a .first .now) (a .second .now) (sym (t .before .before .encode .ensures) ∙ t .enum-told .given .1)
+sixteen : (t : tie.After-enum-told) → let a = t .before .before .before .before .before .args in BothSixteen (a .first .now) (a .second .now)
+sixteen t = let a = t .before .before .before .before .before .args in both-sixteen (a .first .now) (a .second .now) (nanChecks (a .first .now) (a .second .now)) (sym (t .before .before .encode .ensures) ∙ t .enum-told .given .1)
 
-half-coded-requires : tie.Need-half-coded-requires
-half-coded-requires c κs = each c .0
+gather-requires : tie.Need-gather-requires
+gather-requires c κs = let both = sixteen c in (search needs, omega arith)
 
-half-coded-requires-2 : tie.Need-half-coded-requires-2
-half-coded-requires-2 c κs = each (c .before) .1
+gather-requires-2 : tie.Need-gather-requires-2
+gather-requires-2 c κs = let both = sixteen (c .before) in (search needs, omega arith)
+
+compress-bc4-block-requires : tie.Need-compress-bc4-block-requires
+compress-bc4-block-requires c κs = search needs
+
+compress-bc4-block-requires-2 : tie.Need-compress-bc4-block-requires-2
+compress-bc4-block-requires-2 c κs = search needs
 
 returns : tie.Need-returns
 returns c = rw (← c .before .before .before .encode .ensures, c .before .checked .given .1)
 
 returns-2 : tie.Need-returns-2
-returns-2 c = let t = c .before .before in rw (← t .before .before .encode .ensures, t .enum-told .given .1, c .before .half-coded .ensures, c .half-coded2 .ensures)
+returns-2 c =
+    let t = c .before .before .before .before .before .before in
+    let both = sixteen t in
+    rw (← t .before .before .encode .ensures, t .enum-told .given .1, c .before .before .compress-bc4-block .ensures, c .compress-bc4-block2 .ensures, c .before .before .before .before .before .gather .ensures, c .before .before .before .before .gather2 .ensures, blockOf-whole _ (both .0), blockOf-whole _ (both .1))
 
 pub encode-block-spec : {M : Type 1} → statement M
 encode-block-spec =
@@ -35,7 +47,9 @@ encode-block-spec =
     encode-requires
     enum-known-checked
     enum-told
-    half-coded-requires
-    half-coded-requires-2
+    gather-requires
+    gather-requires-2
+    compress-bc4-block-requires
+    compress-bc4-block-requires-2
     returns
     returns-2)

@@ -3,7 +3,7 @@ use mathlib.Core.Path.{refl, sym, _∙_}
 use mathlib.Core.Logic.{inr}
 use lib.ListN.{length}
 use Rattle.place.proofs.Places.{size-small}
-use Rattle.bc5.proofs.Each.{Channels, tile-each}
+use Rattle.bc5.proofs.Counts.{Channels, tile-passed}
 use borrow.Author.Needs.{needs}
 use Rattle.bc5.proofs.encode_tile.Statement.{statement}
 use Rattle.bc5.proofs.encode_tile.Tie as tie
@@ -18,7 +18,7 @@ enum-told : tie.Need-enum-told
 enum-told c = search needs
 
 accepted : (t : tie.After-enum-told) → let a = t .before .before .before .before .before .before .args in Channels (now (a .first)) (now (a .second)) (a .width) (a .height) (length (now (a .out)))
-accepted t = let a = t .before .before .before .before .before .before .args in tile-each (now (a .first)) (now (a .second)) (a .width) (a .height) (length (now (a .out))) (sym (t .before .before .tile .ensures) ∙ t .enum-told .given .1)
+accepted t = let a = t .before .before .before .before .before .before .args in tile-passed (now (a .first)) (now (a .second)) (a .width) (a .height) (length (now (a .out))) (sym (t .before .before .tile .ensures) ∙ t .enum-told .given .1)
 
 encode-blocks-requires : tie.Need-encode-blocks-requires
 encode-blocks-requires c κs = let a = accepted (c .before) in (inr refl, a .good, a .first-count, a .second-count, a .room)

@@ -1,5 +1,13 @@
-use mathlib.Core.Path.{sym, _∙_}
-use Rattle.bc5.proofs.Each.{ResendEach, resend-each}
+use mathlib.Core.Path.{_≡_, sym, _∙_}
+use mathlib.Core.List.{_∷_}
+use native.Mathlib.Omega.{arith}
+use lib.ListN.{length}
+use Rattle.place.specs.Place.{bc5Size}
+use Rattle.place.proofs.Samples.{blockOf-whole}
+use Rattle.refusal.specs.declared.Checked.the-variants.{Passed}
+use Rattle.refusal.specs.Refusals.{firstOf, lengthCheck, ditherCheck}
+use Rattle.bc5.specs.Checks.{nanChecks, resendChecks}
+use Rattle.bc5.proofs.Counts.{BothSixteen, both-sixteen, bytes-sixteen}
 use borrow.Author.Needs.{needs}
 use Rattle.bc5.proofs.resend.Statement.{statement}
 use Rattle.bc5.proofs.resend.Tie as tie
@@ -13,38 +21,59 @@ enum-known-checked c = search needs
 enum-told : tie.Need-enum-told
 enum-told c = search needs
 
-sub-half-kept : tie.Need-sub-half-kept
-sub-half-kept c = search needs
+passed : (t : tie.After-enum-told) → let a = t .before .before .before .before .before .before .args in firstOf (resendChecks (a .first .now) (a .second .now) (a .held .now) (a .o)) ≡ Passed
+passed t = sym (t .before .before .resend .ensures) ∙ t .enum-told .given .1
 
-part-half-kept-start : tie.Need-part-half-kept-start
-part-half-kept-start c = search needs
+sixteen : (t : tie.After-enum-told) → let a = t .before .before .before .before .before .before .args in BothSixteen (a .first .now) (a .second .now)
+sixteen t = let a = t .before .before .before .before .before .before .args in both-sixteen (a .first .now) (a .second .now) (lengthCheck (length (a .held .now)) bc5Size ∷ ditherCheck (a .o) ∷ nanChecks (a .first .now) (a .second .now)) (passed t)
 
-each : (t : tie.After-enum-told) → let a = t .before .before .before .before .before .before .args in ResendEach (a .first .now) (a .second .now) (a .held .now) (a .o)
-each t = let a = t .before .before .before .before .before .before .args in resend-each (a .first .now) (a .second .now) (a .held .now) (a .o) (sym (t .before .before .resend .ensures) ∙ t .enum-told .given .1)
+long : (t : tie.After-enum-told) → let a = t .before .before .before .before .before .before .args in length (a .held .now) ≡ bc5Size
+long t = let a = t .before .before .before .before .before .before .args in bytes-sixteen (a .first .now) (a .second .now) (a .held .now) (ditherCheck (a .o) ∷ nanChecks (a .first .now) (a .second .now)) (passed t)
 
-part-half-kept-end : tie.Need-part-half-kept-end
-part-half-kept-end c = let long = each c .0 in search needs
+gather-requires : tie.Need-gather-requires
+gather-requires c κs = let both = sixteen c in (search needs, omega arith)
 
-half-kept-requires : tie.Need-half-kept-requires
-half-kept-requires c κs = each (c .before) .1
+gather-requires-2 : tie.Need-gather-requires-2
+gather-requires-2 c κs = let both = sixteen (c .before) in (search needs, omega arith)
 
-sub-half-kept-2 : tie.Need-sub-half-kept-2
-sub-half-kept-2 c = search needs
+sub-from-bytes : tie.Need-sub-from-bytes
+sub-from-bytes c = search needs
 
-part-half-kept-start-2 : tie.Need-part-half-kept-start-2
-part-half-kept-start-2 c = search needs
+part-from-bytes-start : tie.Need-part-from-bytes-start
+part-from-bytes-start c = search needs
 
-part-half-kept-end-2 : tie.Need-part-half-kept-end-2
-part-half-kept-end-2 c = let long = each (c .before .before) .0 in search needs
+part-from-bytes-end : tie.Need-part-from-bytes-end
+part-from-bytes-end c = let l = long (c .before .before .before) in search needs
 
-half-kept-requires-2 : tie.Need-half-kept-requires-2
-half-kept-requires-2 c κs = each (c .before .before .before) .2
+from-bytes-requires : tie.Need-from-bytes-requires
+from-bytes-requires c κs = search needs
+
+better-requires : tie.Need-better-requires
+better-requires c κs = search needs
+
+sub-from-bytes-2 : tie.Need-sub-from-bytes-2
+sub-from-bytes-2 c = search needs
+
+part-from-bytes-start-2 : tie.Need-part-from-bytes-start-2
+part-from-bytes-start-2 c = search needs
+
+part-from-bytes-end-2 : tie.Need-part-from-bytes-end-2
+part-from-bytes-end-2 c = let l = long (c .before .before .before .before .before .before .before) in search needs
+
+from-bytes-requires-2 : tie.Need-from-bytes-requires-2
+from-bytes-requires-2 c κs = search needs
+
+better-requires-2 : tie.Need-better-requires-2
+better-requires-2 c κs = search needs
 
 returns : tie.Need-returns
 returns c = rw (← c .before .before .before .resend .ensures, c .before .checked .given .1)
 
 returns-2 : tie.Need-returns-2
-returns-2 c = let t = c .before .before .before .before in rw (← t .before .before .resend .ensures, t .enum-told .given .1, c .before .before .half-kept .ensures, c .half-kept2 .ensures)
+returns-2 c =
+    let t = c .before .before .before .before .before .before .before .before .before .before in
+    let both = sixteen t in
+    rw (← t .before .before .resend .ensures, t .enum-told .given .1, c .before .before .before .before .better .ensures, c .better2 .ensures, c .before .before .before .before .before .from-bytes .ensures, c .before .from-bytes2 .ensures, c .before .before .before .before .before .before .before .before .before .gather .ensures, c .before .before .before .before .before .before .before .before .gather2 .ensures, blockOf-whole _ (both .0), blockOf-whole _ (both .1))
 
 pub resend-spec : {M : Type 1} → statement M
 resend-spec =
@@ -53,13 +82,17 @@ resend-spec =
     resend-requires
     enum-known-checked
     enum-told
-    sub-half-kept
-    part-half-kept-start
-    part-half-kept-end
-    half-kept-requires
-    sub-half-kept-2
-    part-half-kept-start-2
-    part-half-kept-end-2
-    half-kept-requires-2
+    gather-requires
+    gather-requires-2
+    sub-from-bytes
+    part-from-bytes-start
+    part-from-bytes-end
+    from-bytes-requires
+    better-requires
+    sub-from-bytes-2
+    part-from-bytes-start-2
+    part-from-bytes-end-2
+    from-bytes-requires-2
+    better-requires-2
     returns
     returns-2)
