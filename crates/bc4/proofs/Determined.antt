@@ -12,6 +12,8 @@ use Rattle.bc4.proofs.block_error.Kinds as block-error-kinds
 use Rattle.bc4.proofs.block_error.Reads as block-error
 use Rattle.bc4.proofs.resend.Kinds as resend-kinds
 use Rattle.bc4.proofs.resend.Reads as resend
+use Rattle.bc4.proofs.better.Kinds as better-kinds
+use Rattle.bc4.proofs.better.Reads as better
 use Rattle.bc4.proofs.view_refusal.Kinds as view-refusal-kinds
 use Rattle.bc4.proofs.view_refusal.Reads as view-refusal
 use Rattle.bc4.proofs.bytes.Kinds as bytes-kinds
@@ -41,6 +43,9 @@ error-determined κs a x y s t p q = p ∙ sym q
 
 pub resend-determined : One-answer 2 resend-kinds.ps resend-kinds.r resend.Post
 resend-determined κs a x y s t p q = p ∙ sym q
+
+pub better-determined : One-answer 1 better-kinds.ps better-kinds.r better.Post
+better-determined κs a x y s t p q = p ∙ sym q
 
 pub refusal-determined : One-answer 1 view-refusal-kinds.ps view-refusal-kinds.r view-refusal.Post
 refusal-determined κs a x y s t p q = p ∙ sym q

@@ -9,6 +9,7 @@ pub mod DdsFiles
 pub mod Demand2
 pub mod Series
 pub mod Demand3
+pub mod Halves
 pub mod TwoChannels
 pub mod EncoderSteps
 pub mod Literals

@@ -13,11 +13,11 @@ use Rattle.block.specs.Samples.{perPixel}
 use Rattle.options.specs.declared.Options.{Options}
 use Rattle.encode.specs.Encoder.{compressed}
 use Rattle.decode.specs.BlockError.{blockError}
-use Rattle.place.specs.Place.{along, bc5Size, encodedLength, blockOf}
+use Rattle.place.specs.Place.{bc5Size, encodedLength, blockOf}
 use Rattle.tile.specs.Tile.{pairBytes}
 use Rattle.refusal.specs.declared.Checked.the-variants.{Passed}
-use Rattle.refusal.specs.Refusals.{firstOf, encodeChecks as oneEncodeChecks}
-use Rattle.refusal.proofs.Firsts.{answered-cases, refusal-of, first-clear, clear-passed}
+use Rattle.refusal.specs.Refusals.{firstOf}
+use Rattle.refusal.proofs.Firsts.{refusal-of}
 use Rattle.bc4.specs.declared.Kept.{Kept as OneKept}
 use Rattle.bc4.specs.declared.Resent.the-variants.{Block as OneAnswered}
 use Rattle.bc4.specs.declared.Tiled.the-variants.{Written, Refused as NotTiled}
@@ -31,23 +31,18 @@ use Rattle.bc5.specs.declared.Resent.{Resent}
 use Rattle.bc5.specs.declared.Resent.the-variants.{Block as Answered, Refused as NotResent}
 use Rattle.bc5.specs.Checks.{encodeChecks, errorChecks, resendChecks, tileChecks}
 use Rattle.bc5.specs.Calls.{firstHalf, secondHalf, ofEncoded, ofScored, ofResent, codedOf, scoresOf, keptOf, encodeAnswer, errorAnswer, resendAnswer, tileAnswer}
-use Rattle.bc5.proofs.Each.{decode-each, encode-each, error-each, resend-each, tile-each}
+use Rattle.bc5.proofs.Counts as counts
 use Rattle.demands.specs.Exactly.{Iff}
-use Rattle.demands.specs.Demand3.{heldAfter, series, AllIn, StaysOrBetter}
-use Rattle.demands.specs.TwoChannels.{Real, HalfDemand3, bothHeldAfter, bothSeries, Flagged, ByItself, TwoChannels}
+use Rattle.demands.specs.Demand3.{series, AllIn, StaysOrBetter}
+use Rattle.demands.specs.TwoChannels.{HalfDemand3, bothHeldAfter, bothSeries, ByItself, TwoChannels}
 use Rattle.demands.proofs.Conditions.{whole}
+use Rattle.demands.proofs.Halves.{decode-each, encode-each, encode-both, error-each, resend-each}
 use Rattle.demands.proofs.WorkedValues.{worked-values}
 use Rattle.demands.proofs.Demand2.{accepted, part-accepted, block-kept, demand-2}
 use Rattle.demands.proofs.Series.{flag-right, series-after, later}
 use Rattle.demands.proofs.Demand3.{demand-3}
 
 -- ---- encode
-both-accepted : (first second : List Float) → firstOf (oneEncodeChecks first) ≡ Passed → firstOf (oneEncodeChecks second) ≡ Passed → firstOf (encodeChecks first second) ≡ Passed
-both-accepted first second p q =
-    let c = first-clear (oneEncodeChecks first) p in
-    let d = first-clear (oneEncodeChecks second) q in
-    clear-passed (encodeChecks first second) (c .0, (d .0, (c .1 .0, (d .1 .0, tt))))
-
 encode-passed : (first second : List Float) (o : Options) (b : Halves) → encodeAnswer first second o ≡ Block b → firstOf (encodeChecks first second) ≡ Passed
 encode-passed first second o b e = sym (refusal-of ofEncoded NotEncoded (Block _) refl (λ q. refl) _) ∙ ap ofEncoded e
 
@@ -93,7 +88,7 @@ module _ (first second : List Float) where
       → (oneResendAnswer first (firstHalf held) o ≡ OneAnswered (h .first)) × (oneResendAnswer second (secondHalf held) o ≡ OneAnswered (h .second))
   resent-each held o h e =
       let each = resend-each first second held o (resend-passed held o h e) in
-      rw (← resent-as held o h e) (rw (each .1), rw (each .2))
+      rw (← resent-as held o h e) (rw (each .0), rw (each .1))
 
   -- What a series leaves of each half is what BC4's series leaves of it, over those resends that were not refused.
   pub record Parted (snorm : Bool) (held : List ℕ) (ps : List Options) : Type 0 where
@@ -167,21 +162,21 @@ two-channels = record {
   zero-and-one = λ o unsigned plain.
       ap (λ (zeros : List ℕ). zeros ++ bytesOf (compressed (perPixel (λ i. f1)) o)) (worked-values .value-9 o unsigned plain)
       ∙ ap (λ (ones : List ℕ). (0 ∷ 0 ∷ 0 ∷ 0 ∷ 0 ∷ 0 ∷ 0 ∷ 0 ∷ []) ++ ones) (worked-values .value-10 o unsigned plain);
-  encoded = λ first second o m n p q. rw (both-accepted first second (accepted first m p) (accepted second n q));
+  encoded = λ first second o m n p q. rw (encode-both first second (accepted first m p) (accepted second n q));
   encoded-each = λ first second o b e.
       let each = encode-each first second (encode-passed first second o b e) in rw (← encoded-as first second o b e) (rw (each .0), rw (each .1));
   scored-each = λ first second encoded snorm e r.
-      let each = error-each first second encoded (score-passed first second encoded snorm e r) in rw (← scored-as first second encoded snorm e r) (rw (each .1), rw (each .2));
+      let each = error-each first second encoded (score-passed first second encoded snorm e r) in rw (← scored-as first second encoded snorm e r) (rw (each .0), rw (each .1));
   resent-each = resent-each;
-  decoded-each = λ encoded passed. let each = decode-each encoded passed in (each .1, each .2);
+  decoded-each = decode-each;
   near = λ encoded snorm first second i h. (demand-2 .near (firstHalf encoded) snorm first i h, demand-2 .near (secondHalf encoded) snorm second i h);
   tiled = λ first second width height o out n e.
-      let tile = tile-each first second width height (length out) (tile-passed first second width height (length out) n e) in
+      let tile = counts.tile-passed first second width height (length out) (tile-passed first second width height (length out) n e) in
       let count : n ≡ width * height = written-as first second width height (length out) n e ∙ whole width height in (
         count,
         λ column row h k. (
           codedOf (blockOf first width column row) (blockOf second width column row) o,
-          rw (both-accepted _ _ (part-accepted first width height column row (tile .first-count) (tile .first-real) h k) (part-accepted second width height column row (tile .second-count) (tile .second-real) h k)),
+          rw (encode-both _ _ (part-accepted first width height column row (tile .first-count) (tile .first-real) h k) (part-accepted second width height column row (tile .second-count) (tile .second-real) h k)),
           block-kept (pairBytes first second width o) bc5Size (λ c r. refl) width height (tile .good) out column row h k,
         ),
       );
