@@ -1,4 +1,5 @@
-/* BC4 blocks: sixteen samples in eight bytes, and DDS files of them. The calls of the static library `exports` (crates/exports), for C99 and C++ on x86-64.
+/* BC4 blocks: sixteen samples in eight bytes, and DDS files of them. The calls of the static library `exports` (crates/exports), for C99 and C++ on x86-64;
+   those on two channels are in bc5.h.
 
    A call answers 0, or the number of a refusal: of all that apply, the first in the order that its comment lists them. A refused call changes nothing
    that it was lent, but for *detail, where the refusal has something to say. No call reads or writes outside what it is lent, and each ends for every input. That, and every value written, is proved, as far as the caller keeps its part. No call allocates, keeps a pointer or has
@@ -19,17 +20,17 @@
 #include <stdint.h>
 
 /* Major, minor and patch number of this header, a byte each. */
-#define BC4_VERSION 0x030000u
+#define BC4_VERSION 0x030100u
 
 /* ---- refusals */
 #define BC4_OK 0u                      /* none */
 #define BC4_SIDE_IS_ZERO 1u            /* width or height is 0; detail: the side, here and in 9 and 10 */
-#define BC4_SAMPLE_COUNT 2u            /* the sample count is not 16, or not width * height */
-#define BC4_ENCODED_LENGTH 3u          /* the encoded length is not 8, or not width * height / 2 */
-#define BC4_OUTPUT_LENGTH 4u           /* the output is shorter than width * height / 2, for a file than 128 + width * height / 2 */
+#define BC4_SAMPLE_COUNT 2u            /* the sample count is not 16, or not width * height; detail of a call of bc5.h: the channel */
+#define BC4_ENCODED_LENGTH 3u          /* the encoded length is not 8, or not width * height / 2; in a call of bc5.h twice that */
+#define BC4_OUTPUT_LENGTH 4u           /* the output is shorter than width * height / 2, in a call of bc5.h than twice that, for a file than 128 + width * height / 2 */
 #define BC4_DITHERED_RESEND 5u         /* a resend with BC4_DITHER */
 #define BC4_NO_SUCH_BLOCK 6u           /* the column is not below width / 4, or the row not below height / 4 */
-#define BC4_SAMPLE_IS_NAN 7u           /* a sample is NaN; detail: the lowest such index, in a tile with its row and column */
+#define BC4_SAMPLE_IS_NAN 7u           /* a sample is NaN; detail: the lowest such index, in a tile with its row and column, of a call of bc5.h with the channel */
 #define BC4_WORD_MALFORMED 8u          /* the options are no sum of the constants below */
 #define BC4_SIDE_TOO_LARGE 9u          /* width or height is over 1,024 */
 #define BC4_SIDE_NOT_MULTIPLE_OF_4 10u /* width or height is no multiple of 4 */
@@ -55,10 +56,14 @@
 #define BC4_FIELD_CUBE_FACES 11u      /* 112: one of the bits 0xFC00 */
 #define BC4_FIELD_ARRAY_SIZE 12u      /* 140: not 1 */
 
+/* ---- channels, for `what` below with 2 and 7 of a call of bc5.h: the first one that is so */
+#define BC4_FIRST_CHANNEL 13u
+#define BC4_SECOND_CHANNEL 14u
+
 /* What a refusal says besides its number. Where it has something to say, by the list of refusals, all four are written, with 0 for what it says nothing about.
    On any other answer, 0 included, all four stay as they were. */
 typedef struct bc4_detail {
-  size_t what; /* a side or a field, by the lists above */
+  size_t what; /* a side, a field or a channel, by the lists above */
   size_t index; /* of a sample, in a tile row * width + column */
   size_t row;
   size_t column;

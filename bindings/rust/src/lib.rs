@@ -1,4 +1,4 @@
-//! Safe calls of the proved BC4 block codec: sixteen samples in eight bytes, and DDS files of such blocks.
+//! Safe calls of the proved BC4 block codec: sixteen samples in eight bytes, and DDS files of such blocks. [`bc5`] has the calls on two channels.
 //!
 //! The codec is the static library that `rt staticlib exports` writes, for x86-64 Linux. A build has to be told where it stands, and nothing else:
 //!
@@ -31,6 +31,8 @@
 #![warn(missing_docs)]
 
 use core::fmt;
+
+pub mod bc5;
 
 #[link(name = "exports", kind = "static")]
 extern "C" {
@@ -111,7 +113,8 @@ extern "C" {
     ) -> u32;
 }
 
-/// What a refusal says besides its number, as the library writes it: `what`, a side or a field of a DDS file, or an index, in a tile with its row and column.
+/// What a refusal says besides its number, as the library writes it: `what`, a side, a field of a DDS file or a channel, and an index, in a tile with its row
+/// and column.
 #[repr(C)]
 #[derive(Clone, Copy, Default)]
 struct Detail {
@@ -180,6 +183,34 @@ impl fmt::Display for Side {
         f.write_str(match self {
             Side::Width => "width",
             Side::Height => "height",
+        })
+    }
+}
+
+/// The channel that is wrong, of a call of [`bc5`]: the first one where a refusal applies to both.
+#[derive(Clone, Copy, Debug, PartialEq, Eq)]
+#[allow(missing_docs)]
+pub enum Channel {
+    First,
+    Second,
+}
+
+impl Channel {
+    /// By the number that the library says in [`Detail::what`]; none for a call on one channel.
+    fn said(what: usize) -> Option<Channel> {
+        match what {
+            13 => Some(Channel::First),
+            14 => Some(Channel::Second),
+            _ => None,
+        }
+    }
+}
+
+impl fmt::Display for Channel {
+    fn fmt(&self, f: &mut fmt::Formatter<'_>) -> fmt::Result {
+        f.write_str(match self {
+            Channel::First => "the first channel",
+            Channel::Second => "the second channel",
         })
     }
 }
@@ -261,9 +292,11 @@ pub enum Refusal {
     SideIsZero(Side),
     /// 2: the sample count is not 16, or not width * height.
     SampleCount,
-    /// 3: the encoded length is not 8, or not width * height / 2.
+    /// 2: the same of one of two channels.
+    ChannelSampleCount(Channel),
+    /// 3: the encoded length is not 8, or not width * height / 2; for two channels, twice that.
     EncodedLength,
-    /// 4: the output is shorter than width * height / 2, for a file than 128 + width * height / 2.
+    /// 4: the output is shorter than width * height / 2, for two channels than twice that, for a file than 128 + width * height / 2.
     OutputLength,
     /// 5: a resend with dither.
     DitheredResend,
@@ -274,6 +307,16 @@ pub enum Refusal {
     /// 7: a sample of a tile is NaN; the lowest index, row * width + column.
     #[allow(missing_docs)]
     TileSampleIsNan {
+        index: usize,
+        row: usize,
+        column: usize,
+    },
+    /// 7: a sample of one of two channels of a block is NaN; the lowest index in that channel.
+    ChannelSampleIsNan(Channel, usize),
+    /// 7: a sample of one of two channels of a tile is NaN; the lowest index in that channel, row * width + column.
+    #[allow(missing_docs)]
+    ChannelTileSampleIsNan {
+        channel: Channel,
         index: usize,
         row: usize,
         column: usize,
@@ -302,12 +345,15 @@ impl Refusal {
     pub fn number(self) -> u32 {
         match self {
             Refusal::SideIsZero(_) => 1,
-            Refusal::SampleCount => 2,
+            Refusal::SampleCount | Refusal::ChannelSampleCount(_) => 2,
             Refusal::EncodedLength => 3,
             Refusal::OutputLength => 4,
             Refusal::DitheredResend => 5,
             Refusal::NoSuchBlock => 6,
-            Refusal::SampleIsNan(_) | Refusal::TileSampleIsNan { .. } => 7,
+            Refusal::SampleIsNan(_)
+            | Refusal::TileSampleIsNan { .. }
+            | Refusal::ChannelSampleIsNan(..)
+            | Refusal::ChannelTileSampleIsNan { .. } => 7,
             Refusal::WordMalformed => 8,
             Refusal::SideTooLarge(..) => 9,
             Refusal::SideNotMultipleOf4(..) => 10,
@@ -341,11 +387,14 @@ impl fmt::Display for Refusal {
             Refusal::SampleCount => {
                 f.write_str("the sample count is not 16, or not width * height")
             }
-            Refusal::EncodedLength => {
-                f.write_str("the encoded length is not 8, or not width * height / 2")
+            Refusal::ChannelSampleCount(channel) => {
+                write!(f, "the sample count of {channel} is not 16, or not width * height")
             }
+            Refusal::EncodedLength => f.write_str(
+                "the encoded length is not 8, or not width * height / 2; for two channels, twice that",
+            ),
             Refusal::OutputLength => f.write_str(
-                "the output is shorter than width * height / 2, for a file than 128 + width * height / 2",
+                "the output is shorter than width * height / 2, for two channels than twice that, for a file than 128 + width * height / 2",
             ),
             Refusal::DitheredResend => f.write_str("a resend with dither"),
             Refusal::NoSuchBlock => f.write_str("the tile has no such block"),
@@ -353,6 +402,16 @@ impl fmt::Display for Refusal {
             Refusal::TileSampleIsNan { index, row, column } => {
                 write!(f, "sample {index} (row {row}, column {column}) is NaN")
             }
+            Refusal::ChannelSampleIsNan(channel, i) => write!(f, "sample {i} of {channel} is NaN"),
+            Refusal::ChannelTileSampleIsNan {
+                channel,
+                index,
+                row,
+                column,
+            } => write!(
+                f,
+                "sample {index} (row {row}, column {column}) of {channel} is NaN"
+            ),
             Refusal::WordMalformed => f.write_str("the options word is malformed"),
             Refusal::SideTooLarge(side, length) => write!(f, "{side} {length} is over 1024"),
             Refusal::SideNotMultipleOf4(side, length) => {
@@ -369,14 +428,17 @@ impl fmt::Display for Refusal {
 impl core::error::Error for Refusal {}
 
 fn checked(number: u32, detail: Detail) -> Result<(), Refusal> {
+    let (channel, index) = (Channel::said(detail.what), detail.index);
     Err(match number {
         0 => return Ok(()),
-        2 => Refusal::SampleCount,
+        2 => channel.map_or(Refusal::SampleCount, Refusal::ChannelSampleCount),
         3 => Refusal::EncodedLength,
         4 => Refusal::OutputLength,
         5 => Refusal::DitheredResend,
         6 => Refusal::NoSuchBlock,
-        7 => Refusal::SampleIsNan(detail.index),
+        7 => channel.map_or(Refusal::SampleIsNan(index), |channel| {
+            Refusal::ChannelSampleIsNan(channel, index)
+        }),
         8 => Refusal::WordMalformed,
         11..=14 => Refusal::DdsHeader(Field::said(detail.what)),
         15 => Refusal::DdsBody,
@@ -394,7 +456,17 @@ fn checked_size(number: u32, detail: Detail, width: usize, height: usize) -> Res
     } = detail;
     let refusal: fn(Side, usize) -> Refusal = match number {
         1 => |side, _| Refusal::SideIsZero(side),
-        7 => return Err(Refusal::TileSampleIsNan { index, row, column }),
+        7 => {
+            return Err(match Channel::said(what) {
+                None => Refusal::TileSampleIsNan { index, row, column },
+                Some(channel) => Refusal::ChannelTileSampleIsNan {
+                    channel,
+                    index,
+                    row,
+                    column,
+                },
+            })
+        }
         9 => Refusal::SideTooLarge,
         10 => Refusal::SideNotMultipleOf4,
         _ => return checked(number, detail),
@@ -409,7 +481,7 @@ fn checked_size(number: u32, detail: Detail, width: usize, height: usize) -> Res
 /// Major, minor and patch number of the library, a byte each.
 ///
 /// ```
-/// assert_eq!(bc4::version(), 0x030000);
+/// assert_eq!(bc4::version(), 0x030100);
 /// ```
 pub fn version() -> u32 {
     // SAFETY: it takes nothing.
