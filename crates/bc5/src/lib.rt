@@ -167,7 +167,7 @@ pub fn encode_tile(
     match checked {
         Checked::Refused(q) => Tiled::Refused(q),
         Checked::Passed => {
-            tile::encode_blocks(first, second, place::BC5_SIZE, width, height, o, out);
+            tile::encode_pairs(first, second, width, height, o, out);
             Tiled::Written(place::encoded_length(place::BC5_SIZE, width, height))
         }
     }

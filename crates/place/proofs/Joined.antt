@@ -3,14 +3,14 @@ use mathlib.Core.Path.{_≡_, refl, sym, ap, _∙_}
 use mathlib.Core.List.{List, _++_, append-assoc, append-nil}
 use mathlib.Core.Logic.{⊎-elim}
 use Prim.Native.Nat.{ℕ, zero, suc, _+_, _*_, _-_, _<_, _≤_}
-use native.Mathlib.Nat.{add-zero, zero-mul, suc-mul, mul-comm, mul-assoc, add-mul, eq-or-lt-of-le}
+use native.Mathlib.Nat.{add-zero, zero-mul, suc-mul, eq-or-lt-of-le}
 use native.Mathlib.Numerals.{add-one}
 use native.Mathlib.Omega.{arith}
 use lib.ListN.{length, take, drop, length-append, length-drop, drop-of-length-le}
 use lib.Seq.{take-all, take-length, take-at, drop-at, drop-drop, take-append-le, drop-append-le, drop-append-add}
 use borrow.Rule.Slice.PartMut.{putMid}
 use Rattle.place.specs.Place.{along, blockAt, joined, rowBytes, allBytes}
-use Rattle.place.proofs.Places.{fits}
+use Rattle.place.proofs.Places.{fits, block-place}
 
 -- m bytes that lie in the first of two lists
 pub in-first : (a b : List ℕ) (m at : ℕ) → at + m ≤ length a → take m (drop at (a ++ b)) ≡ take m (drop at a)
@@ -18,6 +18,15 @@ in-first a b m at h =
     let p : at ≤ length a = omega arith in
     let q : m ≤ length (drop at a) = simp length-drop (omega arith) in
     ap (take m) (drop-append-le at a b p) ∙ take-append-le m (drop at a) b q
+
+pub joined-ext : (piece other : ℕ → List ℕ) (n : ℕ) → ((k : ℕ) → k < n → piece k ≡ other k) → joined piece n ≡ joined other n
+unfolding joined
+joined-ext piece other zero same = refl
+joined-ext piece other (suc n) same = rw (joined-ext piece other n (λ k h. same k (omega arith)), same n (omega arith))
+
+pub all-ext : (block other : ℕ → ℕ → List ℕ) (width height : ℕ) → ((column row : ℕ) → column < along width → row < along height → block column row ≡ other column row)
+    → allBytes block width height ≡ allBytes other width height
+all-ext block other width height same = joined-ext _ _ (along height) (λ row k. joined-ext _ _ (along width) (λ column h. same column row h k))
 
 module _ (piece : ℕ → List ℕ) (size : ℕ) (each : (k : ℕ) → length (piece k) ≡ size) where
   pub joined-length : (n : ℕ) → length (joined piece n) ≡ n * size
@@ -50,6 +59,10 @@ module _ {piece : ℕ → List ℕ} {size : ℕ} {old : List ℕ} where
   unfolding joined
   grown-start = record { same = rw (zero-mul size); long = refl }
 
+  -- where the next pieces go, all is as it was
+  pub grown-rest : {out : List ℕ} {k : ℕ} → ((k : ℕ) → length (piece k) ≡ size) → Grown piece size old out k → (at : ℕ) → at ≡ k * size → drop at out ≡ drop at old
+  grown-rest {out} {k} each g at a = rw (a, g .same) (drop-at (joined piece k) (drop (k * size) old) (k * size) (joined-length piece size each k))
+
   -- `at` is where the next piece goes; its place was lent, and came back as `new`
   pub grown-step : {out : List ℕ} {k : ℕ} → ((k : ℕ) → length (piece k) ≡ size) → Grown piece size old out k → (at m : ℕ) (new : List ℕ)
       → at ≡ k * size → m ≡ size → new ≡ piece k → at + size ≤ length old → Grown piece size old (putMid at m out new) (k + 1)
@@ -73,7 +86,7 @@ module _ (block : ℕ → ℕ → List ℕ) (size width : ℕ) (each : (column r
   pub block-stands : (height column row : ℕ) → column < along width → row < along height
       → take size (drop (blockAt size width column row) (allBytes block width height)) ≡ block column row
   block-stands height column row h k =
-      let place : blockAt size width column row ≡ row * (along width * size) + (column * size + 0) = rw (mul-comm size (row * along width + column), add-mul (row * along width) column size, mul-assoc row (along width) size, add-zero (column * size)) in
+      let place : blockAt size width column row ≡ row * (along width * size) + (column * size + 0) = rw (block-place size width column row, add-zero (column * size)) in
       rw place
       (joined-at (rowBytes block width) (along width * size) row-length (along height) row size (column * size + 0) k (omega (arith, fits column (along width) size h))
       ∙ joined-at (λ c. block c row) size (λ c. each c row) (along width) column size 0 h (omega arith)

@@ -21,6 +21,10 @@ fits k many n h = omega (arith, mul-le-mul-right n h, suc-mul k n)
 pub first-row : (size width column : ℕ) → blockAt size width column 0 ≡ column * size
 first-row size width column = rw (zero-mul (along width), zero-add column) (mul-comm size column)
 
+-- a block of any row: so far into the row's stretch
+pub block-place : (size width column row : ℕ) → blockAt size width column row ≡ row * (along width * size) + column * size
+block-place size width column row = rw (mul-comm size (row * along width + column), add-mul (row * along width) column size, mul-assoc row (along width) size)
+
 pub record Side (n : ℕ) : Type 0 where
   pub some : 0 < n
   pub short : n ≤ longestSide
