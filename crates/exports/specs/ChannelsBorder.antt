@@ -15,23 +15,23 @@ use Rattle.bc5.specs.declared.Resent.{Resent}
 use Rattle.bc5.specs.declared.Resent.the-variants.{Block as Answered, Refused as NotResent}
 use Rattle.bc5.specs.Calls.{halvesBytes}
 
-abbrev pub blockAfter : Encoded → List ℕ → List ℕ
-blockAfter (Block b) before = halvesBytes b
-blockAfter (NotEncoded q) before = before
+abbrev pub pairAfter : Encoded → List ℕ → List ℕ
+pairAfter (Block b) before = halvesBytes b
+pairAfter (NotEncoded q) before = before
 
 -- the first channel's, and the second's
-abbrev pub errorsAfter : Scored → List Float → List Float
-errorsAfter (Errors e) before = e .first ∷ e .second ∷ []
-errorsAfter (NotScored q) before = before
+abbrev pub pairErrorsAfter : Scored → List Float → List Float
+pairErrorsAfter (Errors e) before = e .first ∷ e .second ∷ []
+pairErrorsAfter (NotScored q) before = before
 
-abbrev pub heldAfter : Resent → List ℕ → List ℕ
-heldAfter (Answered h) before = bytesOf (h .first .block) ++ bytesOf (h .second .block)
-heldAfter (NotResent q) before = before
+abbrev pub pairHeldAfter : Resent → List ℕ → List ℕ
+pairHeldAfter (Answered h) before = bytesOf (h .first .block) ++ bytesOf (h .second .block)
+pairHeldAfter (NotResent q) before = before
 
 -- of each half 1 where it is the fresh one, else 0
-abbrev pub freshAfter : Resent → List ℕ → List ℕ
-freshAfter (Answered h) before = cond (h .first .fresh) 1 0 ∷ cond (h .second .fresh) 1 0 ∷ []
-freshAfter (NotResent q) before = before
+abbrev pub pairFreshAfter : Resent → List ℕ → List ℕ
+pairFreshAfter (Answered h) before = cond (h .first .fresh) 1 0 ∷ cond (h .second .fresh) 1 0 ∷ []
+pairFreshAfter (NotResent q) before = before
 
-abbrev pub offsetAfter : Checked → ℕ → ℕ → ℕ → ℕ → ℕ
-offsetAfter checked width column row before = answered (λ q. before) (blockAt bc5Size width column row) checked
+abbrev pub pairOffsetAfter : Checked → ℕ → ℕ → ℕ → ℕ → ℕ
+pairOffsetAfter checked width column row before = answered (λ q. before) (blockAt bc5Size width column row) checked

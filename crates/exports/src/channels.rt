@@ -7,7 +7,7 @@ ghost use Rattle.bc5.specs.Checks.{decodeChecks, viewChecks};
 ghost use Rattle.bc5.specs.Calls.{firstHalf, secondHalf, ofEncoded, ofScored, ofResent, errorAnswer, outAfter};
 ghost use Rattle.bc5.specs.Word.{encodeByWord, resendByWord, tileByWord};
 ghost use Rattle.exports.specs.Border.{wordOfNumber, numberIn, detailAfter, writtenAfter};
-ghost use Rattle.exports.specs.ChannelsBorder.{blockAfter, errorsAfter, heldAfter, freshAfter, offsetAfter};
+ghost use Rattle.exports.specs.ChannelsBorder.{pairAfter, pairErrorsAfter, pairHeldAfter, pairFreshAfter, pairOffsetAfter};
 use crate::bit;
 use crate::refused;
 use crate::word_in;
@@ -27,7 +27,7 @@ pub extern "C" fn bc5_encode_block(
     detail: &mut [usize; 4],
 ) -> u32
     ensures number { λ r. ⌜ r ≡ numberIn (ofEncoded (encodeByWord (now (first .entry)) (now (second .entry)) (wordOfNumber options))) ⌝ }
-    ensures block { λ _. ⌜ now (block .exit) ≡ blockAfter (encodeByWord (now (first .entry)) (now (second .entry)) (wordOfNumber options)) (now (block .entry)) ⌝ }
+    ensures block { λ _. ⌜ now (block .exit) ≡ pairAfter (encodeByWord (now (first .entry)) (now (second .entry)) (wordOfNumber options)) (now (block .entry)) ⌝ }
     ensures detail { λ _. ⌜ now (detail .exit) ≡ detailAfter (ofEncoded (encodeByWord (now (first .entry)) (now (second .entry)) (wordOfNumber options))) (now (detail .entry)) ⌝ }
 {
     let answer = bc5::word::encode_block(first, second, word_in(options));
@@ -70,7 +70,7 @@ pub extern "C" fn bc5_block_error(
     detail: &mut [usize; 4],
 ) -> u32
     ensures number { λ r. ⌜ r ≡ numberIn (ofScored (errorAnswer (now (first .entry)) (now (second .entry)) (now (encoded .entry)) snorm)) ⌝ }
-    ensures errors { λ _. ⌜ now (errors .exit) ≡ errorsAfter (errorAnswer (now (first .entry)) (now (second .entry)) (now (encoded .entry)) snorm) (now (errors .entry)) ⌝ }
+    ensures errors { λ _. ⌜ now (errors .exit) ≡ pairErrorsAfter (errorAnswer (now (first .entry)) (now (second .entry)) (now (encoded .entry)) snorm) (now (errors .entry)) ⌝ }
     ensures detail { λ _. ⌜ now (detail .exit) ≡ detailAfter (ofScored (errorAnswer (now (first .entry)) (now (second .entry)) (now (encoded .entry)) snorm)) (now (detail .entry)) ⌝ }
 {
     let answer = bc5::block_error(first, second, encoded, snorm);
@@ -94,8 +94,8 @@ pub extern "C" fn bc5_resend(
     detail: &mut [usize; 4],
 ) -> u32
     ensures number { λ r. ⌜ r ≡ numberIn (ofResent (resendByWord (now (first .entry)) (now (second .entry)) (now (held .entry)) (wordOfNumber options))) ⌝ }
-    ensures block { λ _. ⌜ now (block .exit) ≡ heldAfter (resendByWord (now (first .entry)) (now (second .entry)) (now (held .entry)) (wordOfNumber options)) (now (block .entry)) ⌝ }
-    ensures fresh { λ _. ⌜ now (fresh .exit) ≡ freshAfter (resendByWord (now (first .entry)) (now (second .entry)) (now (held .entry)) (wordOfNumber options)) (now (fresh .entry)) ⌝ }
+    ensures block { λ _. ⌜ now (block .exit) ≡ pairHeldAfter (resendByWord (now (first .entry)) (now (second .entry)) (now (held .entry)) (wordOfNumber options)) (now (block .entry)) ⌝ }
+    ensures fresh { λ _. ⌜ now (fresh .exit) ≡ pairFreshAfter (resendByWord (now (first .entry)) (now (second .entry)) (now (held .entry)) (wordOfNumber options)) (now (fresh .entry)) ⌝ }
     ensures detail { λ _. ⌜ now (detail .exit) ≡ detailAfter (ofResent (resendByWord (now (first .entry)) (now (second .entry)) (now (held .entry)) (wordOfNumber options))) (now (detail .entry)) ⌝ }
 {
     let answer = bc5::word::resend(first, second, held, word_in(options));
@@ -150,7 +150,7 @@ pub extern "C" fn bc5_block_view(
     detail: &mut [usize; 4],
 ) -> u32
     ensures number { λ r. ⌜ r ≡ numberIn (firstOf (viewChecks (length (now (tile .entry))) width height column row)) ⌝ }
-    ensures offset { λ _. ⌜ now (offset .exit) ≡ offsetAfter (firstOf (viewChecks (length (now (tile .entry))) width height column row)) width column row (now (offset .entry)) ⌝ }
+    ensures offset { λ _. ⌜ now (offset .exit) ≡ pairOffsetAfter (firstOf (viewChecks (length (now (tile .entry))) width height column row)) width column row (now (offset .entry)) ⌝ }
     ensures detail { λ _. ⌜ now (detail .exit) ≡ detailAfter (firstOf (viewChecks (length (now (tile .entry))) width height column row)) (now (detail .entry)) ⌝ }
 {
     let checked = bc5::view_refusal(tile, width, height, column, row);
