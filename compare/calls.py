@@ -1,118 +1,26 @@
 #!/usr/bin/env python3
 """calls.py ORACLE OUT: the lines that the program `calls` has to print, worked out from document 01 and document 02, 2/12, and written to OUT.
 
-Nothing of the library is asked. Refusals, decoding and block errors are worked out here: a step in f32 is the exact fraction rounded once.
-Encoded bytes come from ORACLE, the Rust text's program, which is given one record of 68 bytes for each block. The order of the cases, and
-the samples and bytes that they give, are those of crates/calls/src and crates/cases/src."""
-import struct
-import subprocess
+Nothing of the library is asked: refusals by refusals.py, decoding and block errors by block_rules.py, which takes encoded bytes from ORACLE, the Rust text's
+program. The order of the cases is that of crates/calls/src."""
 import sys
-from fractions import Fraction
+from functools import partial
 
-from refusals import FAR, FARTHEST, first, size_checks
+import block_rules
+from block_rules import bits, block_error, decoded, every_index, indexes, tile_blocks
+from given import SIXTEEN, checksum, format_of, given_bytes, named, samples, write
+from refusals import FAR, FARTHEST, count_check, first, nan_check, size_checks
 
-INF = float("inf")
-oracle = sys.argv[1]
+encoded = partial(block_rules.encoded, sys.argv[1])
+view = partial(block_rules.view, size=8)
 lines = []
-
-
-# ---- f32: a value is a float that an f32 holds
-
-
-def rounded(x):
-    """The f32 next to a fraction from 0 up, ties to even. Nothing here is too large for an f32."""
-    if x == 0:
-        return 0.0
-    step = Fraction(1, 2**149)
-    while x >= 2**24 * step:
-        step *= 2
-    # Python rounds a fraction to the next whole number, ties to even
-    return float(round(x / step) * step)
-
-
-def f32(x):
-    return rounded(x) if x >= 0 else -rounded(-x)
-
-
-def add(a, b):
-    return f32(Fraction(a) + Fraction(b))
-
-
-def sub(a, b):
-    return f32(Fraction(a) - Fraction(b))
-
-
-def mul(a, b):
-    return f32(Fraction(a) * Fraction(b))
-
-
-def bits(x):
-    return struct.pack(">f", x).hex()
-
-
-# ---- eight bytes
-
-
-def value(byte, snorm):
-    if not snorm:
-        return f32(Fraction(byte, 255))
-    signed = byte - 256 if byte >= 128 else byte
-    return f32(Fraction(max(signed, -127) + 127, 254))
-
-
-def is_six(c0, c1, snorm):
-    signed = lambda b: b - 256 if b >= 128 and snorm else b
-    return signed(c0) > signed(c1)
-
-
-def eight_values(c0, c1, snorm):
-    x, y = value(c0, snorm), value(c1, snorm)
-    if is_six(c0, c1, snorm):
-        factor2 = mul(f32(Fraction(1, 7)), sub(x, y))
-        return [x, y] + [add(mul(8 - k, factor2), y) for k in range(2, 8)]
-    fifths = [f32(Fraction(k, 5)) for k in range(5)]
-    return [x, y] + [add(mul(x, fifths[6 - k]), mul(y, fifths[k - 1])) for k in range(2, 6)] + [0.0, 1.0]
-
-
-def decoded(block, snorm):
-    values = eight_values(block[0], block[1], snorm)
-    indexes = int.from_bytes(block[2:], "little")
-    return [values[indexes >> 3 * i & 7] for i in range(16)]
-
-
-def clamped(x):
-    return 0.0 if not x > 0 else 1.0 if not x < 1 else x
-
-
-def block_error(samples, block, snorm):
-    total = 0.0
-    for sample, v in zip(samples, decoded(block, snorm)):
-        d = sub(clamped(sample), v)
-        total = add(total, mul(d, d))
-    return total
 
 
 # ---- the calls
 
 
-def nan_check(samples, width=None):
-    """With a tile's width the row and the column too."""
-    at = next((i for i, x in enumerate(samples) if x != x), len(samples))
-    place = f", row {at // width}, column {at % width}" if width else ""
-    return 7, f" at {at}{place}", at < len(samples)
-
-
-def encoded(blocks, dither=False, snorm=False, search=False):
-    """The Rust's bytes of each block: four-value mode on, two rounds, Round."""
-    word = bytes([8 + dither + 2 * snorm + 4 * search, 2, 0, 0])
-    records = b"".join(word + struct.pack("<16f", *map(clamped, block)) for block in blocks)
-    answers = subprocess.run([oracle], input=records, stdout=subprocess.PIPE, check=True).stdout.split()
-    assert len(answers) == len(blocks)
-    return [bytes.fromhex(a.decode()) for a in answers]
-
-
 def encode(samples, **options):
-    refused = first((2, len(samples) != 16), nan_check(samples))
+    refused = first(count_check(samples, 16), nan_check(samples))
     return refused or encoded([samples], **options)[0].hex()
 
 
@@ -123,12 +31,12 @@ def decode(block, snorm, before):
 
 
 def error(samples, block, snorm):
-    refused = first((2, len(samples) != 16), (3, len(block) != 8), nan_check(samples))
+    refused = first(count_check(samples, 16), (3, len(block) != 8), nan_check(samples))
     return refused or bits(block_error(samples, block, snorm))
 
 
 def resend(samples, held, dither, snorm):
-    refused = first((2, len(samples) != 16), (3, len(held) != 8), (5, dither), nan_check(samples))
+    refused = first(count_check(samples, 16), (3, len(held) != 8), (5, dither), nan_check(samples))
     if refused:
         return refused
     fresh = encoded([samples], snorm=snorm)[0]
@@ -141,70 +49,14 @@ def tile(samples, width, height, out, room, snorm=False):
     """The answer, and `out` after the call, which is lent its first `room` bytes."""
     refused = first(
         *size_checks(width, height),
-        (2, len(samples) != width * height),
+        count_check(samples, width * height),
         (4, room < width * height // 2),
         nan_check(samples, width),
     )
     if refused:
         return refused, out
-    blocks = [
-        [samples[(4 * row + y) * width + 4 * column + x] for y in range(4) for x in range(4)]
-        for row in range(height // 4)
-        for column in range(width // 4)
-    ]
-    written = b"".join(encoded(blocks, snorm=snorm))
+    written = b"".join(encoded(tile_blocks(samples, width, height), snorm=snorm))
     return f"written {len(written)}", written + out[len(written) :]
-
-
-def view(tile, width, height, column, row):
-    refused = first(
-        *size_checks(width, height),
-        (3, len(tile) != width * height // 2),
-        (6, column >= width // 4 or row >= height // 4),
-    )
-    if refused:
-        return f"{refused}, []"
-    at = 8 * (row * (width // 4) + column)
-    return f"[{tile[at:at + 8].hex()}]"
-
-
-def checksum(out):
-    total = 0
-    for b in out:
-        total = (total * 257 + b + 1) % 4294967291
-    return f"{total:08x}"
-
-
-# ---- what the cases give
-
-
-def sample(i):
-    return (i % 65521 * 1021 + i % 7 * 1500 + i % 251 * 40) % 65521 / 65536
-
-
-def samples(count, *nans):
-    return [float("nan") if i in nans else sample(i) for i in range(count)]
-
-
-def given_bytes(count):
-    return bytes((i % 65521 * 37 + i % 65521 // 256 * 3 + 200) % 256 for i in range(count))
-
-
-SLOPES = samples(16)
-ZEROS = [0.0] * 16
-ONES = [1.0] * 16
-
-
-def halves(a, b):
-    return [a] * 8 + [b] * 8
-
-
-def named(*nans):
-    return ", NaN at " + " and ".join(map(str, nans)) if nans else ""
-
-
-def format_of(snorm):
-    return ", signed" if snorm else ", unsigned"
 
 
 # ---- the lines
@@ -214,9 +66,9 @@ def encode_lines():
     def counted(count, *nans):
         lines.append(f"encode {count} samples{named(*nans)}: {encode(samples(count, *nans))}")
 
-    def valued(name, block, dither=False, snorm=False, search=False):
+    def valued(name, dither=False, snorm=False, search=False):
         how = format_of(snorm) + ", dither" * dither + ", search" * search
-        lines.append(f"encode {name}{how}: {encode(block, dither=dither, snorm=snorm, search=search)}")
+        lines.append(f"encode {name}{how}: {encode(SIXTEEN[name], dither=dither, snorm=snorm, search=search)}")
 
     for count in [0, 7, 8, 9, 15, 16, 17]:
         counted(count)
@@ -226,46 +78,41 @@ def encode_lines():
     counted(17, 3)
     counted(17, 16)
     for dither, search in [(False, False), (True, False), (False, True)]:
-        valued("slopes", SLOPES, dither, False, search)
-        valued("slopes", SLOPES, dither, True, search)
-    for name, block in [("all 0", ZEROS), ("all 1", ONES)]:
-        valued(name, block)
-        valued(name, block, snorm=True)
-        valued(name, block, search=True)
+        valued("slopes", dither, False, search)
+        valued("slopes", dither, True, search)
+    for name in ["all 0", "all 1"]:
+        valued(name)
+        valued(name, snorm=True)
+        valued(name, search=True)
     for options in [{}, {"snorm": True}, {"dither": True}]:
-        valued("0 and 1", halves(0.0, 1.0), **options)
-        valued("-inf and inf", halves(-INF, INF), **options)
-    valued("all inf", [INF] * 16)
-    valued("all inf", [INF] * 16, search=True)
-    valued("all -inf", [-INF] * 16, snorm=True)
-    valued("all -inf", [-INF] * 16, search=True)
+        valued("0 and 1", **options)
+        valued("-inf and inf", **options)
+    valued("all inf")
+    valued("all inf", search=True)
+    valued("all -inf", snorm=True)
+    valued("all -inf", search=True)
 
 
 def decode_lines():
+    before = SIXTEEN["slopes"]
+
     def long(length, snorm=False):
-        lines.append(f"decode {length} bytes{format_of(snorm)}:{decode(given_bytes(length), snorm, SLOPES)}")
+        lines.append(f"decode {length} bytes{format_of(snorm)}:{decode(given_bytes(length), snorm, before)}")
 
     def valued(block, snorm):
-        lines.append(f"decode {block.hex()}{format_of(snorm)}:{decode(block, snorm, SLOPES)}")
-
-    def every_index(c0, c1, snorm):
-        valued(bytes([c0, c1]) + indexes([*range(8)] * 2), snorm)
+        lines.append(f"decode {block.hex()}{format_of(snorm)}:{decode(block, snorm, before)}")
 
     for length in [0, 7, 8, 9, 15, 16, 17]:
         long(length)
     for length in [7, 8, 9]:
         long(length, True)
     for pair in [(255, 0), (0, 255), (128, 127), (127, 128), (0x55, 0x55), (1, 255), (255, 1)]:
-        every_index(*pair, False)
+        valued(every_index(*pair), False)
     for pair in [(127, 0x81), (0x81, 127), (127, 0x80), (0x80, 127), (1, 255), (255, 1), (0x55, 0x55)]:
-        every_index(*pair, True)
-    every_index(0x81, 0x80, True)
-    every_index(0x80, 0x81, True)
+        valued(every_index(*pair), True)
+    valued(every_index(0x81, 0x80), True)
+    valued(every_index(0x80, 0x81), True)
     valued(bytes([0, 255]) + indexes([2] * 16), False)
-
-
-def indexes(sixteen):
-    return sum(k << 3 * i for i, k in enumerate(sixteen)).to_bytes(6, "little")
 
 
 def error_lines():
@@ -273,8 +120,8 @@ def error_lines():
         answer = error(samples(count, *nans), given_bytes(length), False)
         lines.append(f"error of {count} samples and {length} bytes{named(*nans)}: {answer}")
 
-    def valued(name, block, held, snorm):
-        lines.append(f"error of {name} and {held.hex()}{format_of(snorm)}: {error(block, held, snorm)}")
+    def valued(name, held, snorm):
+        lines.append(f"error of {name} and {held.hex()}{format_of(snorm)}: {error(SIXTEEN[name], held, snorm)}")
 
     for count in [0, 7, 8, 9, 15, 16, 17]:
         counted(count, 8)
@@ -290,18 +137,17 @@ def error_lines():
     counted(15, 7, 3)
     counted(17, 9, 16)
     counted(0, 0)
-    six = bytes([200, 10]) + indexes([*range(8)] * 2)
-    four = bytes([10, 200]) + indexes([*range(8)] * 2)
+    six, four = every_index(200, 10), every_index(10, 200)
     for snorm in [False, True]:
-        valued("slopes", SLOPES, six, snorm)
-        valued("slopes", SLOPES, four, snorm)
-    valued("0 and 1", halves(0.0, 1.0), six, False)
-    valued("-inf and inf", halves(-INF, INF), six, False)
-    valued("-3.5 and 2.5", halves(-3.5, 2.5), six, False)
-    valued("0 and 1", halves(0.0, 1.0), six, True)
-    valued("-inf and inf", halves(-INF, INF), six, True)
-    valued("all 0", ZEROS, bytes(8), False)
-    valued("all 0", ZEROS, bytes([255] * 8), False)
+        valued("slopes", six, snorm)
+        valued("slopes", four, snorm)
+    valued("0 and 1", six, False)
+    valued("-inf and inf", six, False)
+    valued("-3.5 and 2.5", six, False)
+    valued("0 and 1", six, True)
+    valued("-inf and inf", six, True)
+    valued("all 0", bytes(8), False)
+    valued("all 0", bytes([255] * 8), False)
 
 
 def resend_lines():
@@ -310,8 +156,9 @@ def resend_lines():
         how = ", dither" * dither + named(*nans)
         lines.append(f"resend {count} samples over {length} bytes{how}: {answer}")
 
-    def valued(name, block, held, snorm):
-        lines.append(f"resend {name} over {held.hex()}{format_of(snorm)}: {resend(block, held, False, snorm)}")
+    def valued(name, held, snorm):
+        answer = resend(SIXTEEN[name], bytes.fromhex(held), False, snorm)
+        lines.append(f"resend {name} over {held}{format_of(snorm)}: {answer}")
 
     for count in [0, 7, 8, 9, 15, 16, 17]:
         counted(count, 8)
@@ -332,16 +179,16 @@ def resend_lines():
     counted(16, 9, True, 3)
     counted(17, 9, True, 3)
     for held in ["0000b66ddbb66ddb", "0000000000000000"]:
-        valued("all 0", ZEROS, bytes.fromhex(held), False)
+        valued("all 0", held, False)
     for held in ["8080b66ddbb66ddb", "8181000000000000"]:
-        valued("all 0", ZEROS, bytes.fromhex(held), True)
+        valued("all 0", held, True)
     for held in ["5600b95dcee5244c", "5107c95dcee5044c", "0000000000000000", "5600b95dcee52400"]:
-        valued("slopes", SLOPES, bytes.fromhex(held), False)
+        valued("slopes", held, False)
     for held in ["d781b95dcee5246c", "d383b95dcee5044c", "8181000000000000", "d781b95dcee52400"]:
-        valued("slopes", SLOPES, bytes.fromhex(held), True)
-    valued("-inf and inf", halves(-INF, INF), bytes(8), False)
-    valued("-inf and inf", halves(-INF, INF), bytes.fromhex("00ffb66ddbffffff"), False)
-    valued("-inf and inf", halves(-INF, INF), bytes.fromhex("807fb66ddbffffff"), True)
+        valued("slopes", held, True)
+    valued("-inf and inf", "0000000000000000", False)
+    valued("-inf and inf", "00ffb66ddbffffff", False)
+    valued("-inf and inf", "807fb66ddbffffff", True)
 
 
 def tiled(width, height, count, room, *nans):
@@ -383,7 +230,7 @@ def tile_lines():
     tiled(8, 12, 97, 47, 3)
     tiled(8, 6, 47, 23, 3)
     for snorm in [False, True]:
-        block = encoded([SLOPES], snorm=snorm)[0].hex()
+        block = encode(SIXTEEN["slopes"], snorm=snorm)
         lines.append(f"tile 4 by 4{format_of(snorm)}: written 8 {block}, block {block}")
 
 
@@ -451,6 +298,4 @@ tile_lines()
 view_lines()
 large_lines()
 end_lines()
-with open(sys.argv[2], "w") as handle:
-    handle.write("".join(line + "\n" for line in lines))
-print(len(lines), "lines")
+write(lines, sys.argv[2])

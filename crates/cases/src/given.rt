@@ -1,6 +1,7 @@
 // What the cases give to the calls.
 use bc4::Options;
 use bc4::Quantization;
+use refusal::Channel;
 
 // Past any sample that is given: no NaN.
 pub const NONE: usize = 0xffff_ffff;
@@ -42,17 +43,29 @@ pub fn byte(i: usize) -> u8 {
     ((i % 65521 * 37 + i % 65521 / 256 * 3 + 200) % 256) as u8
 }
 
-fn sample_or_nan(i: usize, first: usize, second: usize) -> f32 {
+// Of two channels the second is the same from further on, so that a half tells whose it is.
+fn sample_in(channel: Channel, i: usize) -> f32 {
+    match channel {
+        Channel::First => sample(i),
+        Channel::Second => sample(i % 65521 + 1000),
+    }
+}
+
+fn sample_or_nan(channel: Channel, i: usize, first: usize, second: usize) -> f32 {
     if (i == first) | (i == second) {
         return nan();
     }
-    sample(i)
+    sample_in(channel, i)
+}
+
+pub fn fill_channel(channel: Channel, out: &mut [f32], first: usize, second: usize) {
+    for i in 0..out.len() {
+        out[i] = sample_or_nan(channel, i, first, second);
+    }
 }
 
 pub fn fill_samples(out: &mut [f32], first: usize, second: usize) {
-    for i in 0..out.len() {
-        out[i] = sample_or_nan(i, first, second);
-    }
+    fill_channel(Channel::First, out, first, second);
 }
 
 pub fn fill_bytes(bytes: &mut [u8]) {
@@ -77,10 +90,14 @@ pub fn first_bytes(s: &[u8], count: usize) -> &[u8] {
 }
 
 // One more than a block has.
-pub fn samples(first: usize, second: usize) -> [f32; 17] {
+pub fn samples_in(channel: Channel, first: usize, second: usize) -> [f32; 17] {
     let mut s = [0.0f32; 17];
-    fill_samples(&mut s, first, second);
+    fill_channel(channel, &mut s, first, second);
     s
+}
+
+pub fn samples(first: usize, second: usize) -> [f32; 17] {
+    samples_in(Channel::First, first, second)
 }
 
 pub fn bytes() -> [u8; 17] {
@@ -92,6 +109,7 @@ pub fn bytes() -> [u8; 17] {
 // Sixteen samples by what they are.
 pub enum Sixteen {
     Slopes,
+    LaterSlopes,
     Zeros,
     Ones,
     Infinite,
@@ -101,9 +119,9 @@ pub enum Sixteen {
     BothOutside,
 }
 
-fn slopes() -> [f32; 16] {
+fn slopes(channel: Channel) -> [f32; 16] {
     let mut s = [0.0f32; 16];
-    fill_samples(&mut s, NONE, NONE);
+    fill_channel(channel, &mut s, NONE, NONE);
     s
 }
 
@@ -114,7 +132,8 @@ fn halves(a: f32, b: f32) -> [f32; 16] {
 
 pub fn block(what: Sixteen) -> [f32; 16] {
     match what {
-        Sixteen::Slopes => slopes(),
+        Sixteen::Slopes => slopes(Channel::First),
+        Sixteen::LaterSlopes => slopes(Channel::Second),
         Sixteen::Zeros => [0.0; 16],
         Sixteen::Ones => [1.0; 16],
         Sixteen::Infinite => [infinity(); 16],

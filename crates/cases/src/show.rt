@@ -8,6 +8,8 @@ use bc4::Checked;
 use bc4::Refusal;
 use given::Sixteen;
 use libc::STDOUT_FILENO;
+use refusal::Channel;
+use refusal::Fault;
 use refusal::Side;
 use refusal::Spot;
 
@@ -80,7 +82,7 @@ pub fn floats(x: &[f32; 16]) {
     }
 }
 
-// The documents' number, and what comes with it: a side, where a NaN stands, or the field of a DDS file.
+// The documents' number, and what comes with it: a side, where a NaN stands, the field of a DDS file, or the channel.
 pub fn refused(q: Refusal) {
     text(b"refused ");
     number(bc4::number(q) as usize);
@@ -91,6 +93,7 @@ pub fn refused(q: Refusal) {
         Refusal::SampleIsNan(i) => at(i),
         Refusal::TileSampleIsNan(s) => spot(s),
         Refusal::DdsHeader(_) => field(q),
+        Refusal::InChannel(f) => fault(f),
         _ => {}
     }
 }
@@ -122,6 +125,27 @@ fn field(q: Refusal) {
     number(detail[0]);
 }
 
+fn fault(f: Fault) {
+    match f {
+        Fault::Count(c) => channel(c),
+        Fault::Nan(c, i) => {
+            channel(c);
+            at(i);
+        }
+        Fault::TileNan(c, s) => {
+            channel(c);
+            spot(s);
+        }
+    }
+}
+
+fn channel(c: Channel) {
+    match c {
+        Channel::First => text(b" first"),
+        Channel::Second => text(b" second"),
+    }
+}
+
 // The number of a refusal, or 0.
 pub fn checked_number(c: Checked) {
     match c {
@@ -142,6 +166,7 @@ pub fn if_refused(c: Checked) {
 pub fn samples(what: Sixteen) {
     match what {
         Sixteen::Slopes => text(b"slopes"),
+        Sixteen::LaterSlopes => text(b"later slopes"),
         Sixteen::Zeros => text(b"all 0"),
         Sixteen::Ones => text(b"all 1"),
         Sixteen::Infinite => text(b"all inf"),

@@ -1,16 +1,16 @@
--- `cases::given::fill_samples` is safe and ends.
+-- `cases::given::fill_channel` is safe and ends.
 use mathlib.Core.Path.{_≡_}
 use Prim.Native.Nat.{_-_, _≤_}
 use lib.ListN.{length}
 use borrow.Author.Needs.{needs}
-use Rattle.cases.proofs.given.fill_samples.Statement.{statement}
-use Rattle.cases.proofs.given.fill_samples.Tie as tie
+use Rattle.cases.proofs.given.fill_channel.Statement.{statement}
+use Rattle.cases.proofs.given.fill_channel.Tie as tie
 
 abbrev Inv-loop : tie.InvT-loop
-Inv-loop out₀ first second i₀ i-end out i = (length out ≡ length out₀) × (i ≤ length out₀)
+Inv-loop channel out₀ first second i₀ i-end out i = (length out ≡ length out₀) × (i ≤ length out₀)
 
 abbrev μ-loop : tie.MeasureT-loop
-μ-loop out₀ first second i₀ i-end out i = length out₀ - i
+μ-loop channel out₀ first second i₀ i-end out i = length out₀ - i
 
 loop-holds : tie.Need-loop-holds Inv-loop μ-loop
 loop-holds c = search needs
@@ -39,8 +39,8 @@ same-length c = search needs
 returns : tie.Need-returns Inv-loop μ-loop
 returns c = search needs
 
-pub fill-samples-spec : {M : Type 1} → statement M
-fill-samples-spec =
+pub fill-channel-spec : {M : Type 1} → statement M
+fill-channel-spec =
     tie.close
     (tie.spec
     Inv-loop
