@@ -71,7 +71,7 @@ pub fn numbered(k: usize) {
     slopes(6 + k % 3, 9 + k / 3, given::options(false, true, false));
 }
 
-// The first line is the worked value: eight 00, then ff and seven 00. In the last -127 is above -128, so that its first half has six values, the other four.
+// The first line is the worked value: eight 00, then ff and seven 00. In the one with 81 80, -127 is above -128, so that this half has six values, the other four.
 pub fn cases() {
     let unsigned = given::options(false, false, false);
     let signed = given::options(false, true, false);
