@@ -7,8 +7,8 @@ use Prim.Native.Nat.{ℕ, zero, suc, _+_, _≤_, _<_}
 use native.Mathlib.Decide.{decLt}
 use native.Mathlib.Omega.{arith}
 use lib.Ieee.{Float, le, isNan}
-use Rattle.floats.proofs.Tests.{clash}
-use Rattle.floats.proofs.Order.{le-of-lt, le-refl, le-total, le-trans}
+use Rattle.floats.proofs.Tests.{clash, either}
+use Rattle.floats.proofs.Order.{le-left, le-right, le-of-lt, le-refl, le-total, le-trans}
 use Rattle.block.specs.Samples.{pixelAt}
 use Rattle.compress.specs.Sorted.{countTo}
 
@@ -78,37 +78,46 @@ module _ (b : List Float) where
       go true h = omega arith
       go false h = omega arith
 
-  -- ---- where no sample is a NaN: of the first n none is not above x, or there is a largest of those
-  module _ (real : (i : ℕ) → i < 16 → isNan (pixelAt b i) ≡ false) where
-    pub record Top (x : Float) (n : ℕ) : Type 0 where
-      pub at : ℕ
-      pub one : at < 16
-      pub counted : le (pixelAt b at) x ≡ true
-      pub largest : Covers (pixelAt b at) x n
+  -- what a sample is not above is no NaN
+  pub count-real : (x : Float) (n : ℕ) → 0 < countTo b x n → isNan x ≡ false
+  count-real x n h = ⊎-elim (λ e. absurd (omega (arith, count-none x n (λ i l. under e i)))) (λ e. e) (either (isNan x))
+    where
+      under : isNan x ≡ true → (i : ℕ) → le (pixelAt b i) x ≡ false
+      under e i = ⊎-elim (λ h. clash e (le-right (pixelAt b i) x h)) (λ h. h) (either (le (pixelAt b i) x))
 
-    grown : (x : Float) (n i : ℕ) → i < 16 → le (pixelAt b i) x ≡ true → Covers (pixelAt b i) x n
-        → (le (pixelAt b n) x ≡ true → le (pixelAt b n) (pixelAt b i) ≡ true) → Top x (suc n)
-    grown x n i l e c h = record {
-      at = i;
-      one = l;
-      counted = e;
-      largest = up-to (λ j. le (pixelAt b j) x ≡ true → le (pixelAt b j) (pixelAt b i) ≡ true) n c h;
-    }
+  -- ---- of the first n none is not above x, or there is a largest of those
+  pub record Top (x : Float) (n : ℕ) : Type 0 where
+    pub at : ℕ
+    pub one : at < n
+    pub counted : le (pixelAt b at) x ≡ true
+    pub largest : Covers (pixelAt b at) x n
 
-    pub top : (x : Float) (n : ℕ) → n ≤ 16 → None x n ⊎ Top x n
-    top x zero l = inl (λ i h. absurd (omega arith))
-    top x (suc n) l = go (le (pixelAt b n) x) refl (top x n (omega arith))
-      where
-        own : le (pixelAt b n) x ≡ true → le (pixelAt b n) (pixelAt b n) ≡ true
-        own k = le-refl (pixelAt b n) (real n l)
+  grown : (x : Float) (n i : ℕ) → i < suc n → le (pixelAt b i) x ≡ true → Covers (pixelAt b i) x n
+      → (le (pixelAt b n) x ≡ true → le (pixelAt b n) (pixelAt b i) ≡ true) → Top x (suc n)
+  grown x n i l e c h = record {
+    at = i;
+    one = l;
+    counted = e;
+    largest = up-to (λ j. le (pixelAt b j) x ≡ true → le (pixelAt b j) (pixelAt b i) ≡ true) n c h;
+  }
 
-        go : (t : Bool) → le (pixelAt b n) x ≡ t → None x n ⊎ Top x n → None x (suc n) ⊎ Top x (suc n)
-        go false e (inl f) = inl (up-to (λ i. le (pixelAt b i) x ≡ false) n f e)
-        go false e (inr t) = inr (grown x n (t .at) (t .one) (t .counted) (t .largest) (λ k. clash k e))
-        go true e (inl f) = inr (grown x n n l e (λ i h k. clash k (f i h)) own)
-        go true e (inr t) =
-            ⊎-elim (λ h. inr (grown x n (t .at) (t .one) (t .counted) (t .largest) (λ k. h)))
-            (λ h.
-            let above : le (pixelAt b (t .at)) (pixelAt b n) ≡ true = le-of-lt (pixelAt b (t .at)) (pixelAt b n) h in
-            inr (grown x n n l e (λ i j k. le-trans (pixelAt b i) (pixelAt b (t .at)) (pixelAt b n) (t .largest i j k) above) own))
-            (le-total (pixelAt b n) (pixelAt b (t .at)) (real n l) (real (t .at) (t .one)))
+  pub top : (x : Float) (n : ℕ) → None x n ⊎ Top x n
+  top x zero = inl (λ i h. absurd (omega arith))
+  top x (suc n) = go (le (pixelAt b n) x) refl (top x n)
+    where
+      last : le (pixelAt b n) x ≡ true → Covers (pixelAt b n) x n → Top x (suc n)
+      last e c = grown x n n (omega arith) e c (λ k. le-refl (pixelAt b n) (le-left (pixelAt b n) x k))
+
+      kept : (t : Top x n) → (le (pixelAt b n) x ≡ true → le (pixelAt b n) (pixelAt b (t .at)) ≡ true) → Top x (suc n)
+      kept t h = let l : t .at < n = t .one in grown x n (t .at) (omega arith) (t .counted) (t .largest) h
+
+      go : (t : Bool) → le (pixelAt b n) x ≡ t → None x n ⊎ Top x n → None x (suc n) ⊎ Top x (suc n)
+      go false e (inl f) = inl (up-to (λ i. le (pixelAt b i) x ≡ false) n f e)
+      go false e (inr t) = inr (kept t (λ k. clash k e))
+      go true e (inl f) = inr (last e (λ i h k. clash k (f i h)))
+      go true e (inr t) =
+          ⊎-elim (λ h. inr (kept t (λ k. h)))
+          (λ h.
+          let above : le (pixelAt b (t .at)) (pixelAt b n) ≡ true = le-of-lt (pixelAt b (t .at)) (pixelAt b n) h in
+          inr (last e (λ i j k. le-trans (pixelAt b i) (pixelAt b (t .at)) (pixelAt b n) (t .largest i j k) above)))
+          (le-total (pixelAt b n) (pixelAt b (t .at)) (le-left (pixelAt b n) x e) (le-left (pixelAt b (t .at)) x (t .counted)))

@@ -3,3 +3,8 @@ pub mod AfterEntry
 pub mod Counting
 pub mod SortedSixteen
 pub mod LoopLaws
+pub mod Steps
+pub mod Rows
+pub mod Thresholds
+pub mod FirstZero
+pub mod SortedPlaces

@@ -8,11 +8,13 @@ use native.Mathlib.Numerals.{add-one, sub-one}
 use native.Mathlib.Omega.{arith}
 use borrow.Author.Tests.{lt-ltb, le-ltb}
 use lib.Dec.{ltb}
-use lib.Ieee.{Float, le, lt}
+use lib.Ieee.{Float, le, lt, eq}
+use Rattle.floats.specs.Arithmetic.{f0}
 use Rattle.floats.specs.Helpers.{minOf}
 use Rattle.block.specs.Samples.{pixelAt}
 use Rattle.refine.specs.declared.rounds.Held.{Held}
 use Rattle.compress.specs.Sorted.{countTo, notAbove, placedTo}
+use Rattle.compress.specs.Network.{firstZeroTo}
 use Rattle.compress.specs.Inter4.{upward, candidate, walked}
 
 -- both arms the same
@@ -25,6 +27,10 @@ module _ (b : List Float) where
   pub count-more : (x : Float) (i : ℕ) → countTo b x (i + 1) ≡ countTo b x i + cond (le (pixelAt b i) x) 1 0
   unfolding countTo
   count-more x i = rw add-one
+
+  pub first-zero-more : (i : ℕ) → firstZeroTo b (i + 1) ≡ cond (eq (firstZeroTo b i) f0) (firstZeroTo b i) (pixelAt b i)
+  unfolding firstZeroTo
+  first-zero-more i = rw add-one
 
   pub placed-more : (k i : ℕ) → placedTo b k (i + 1) ≡ cond (ltb k (notAbove b (pixelAt b i))) (minOf (placedTo b k i) (pixelAt b i)) (placedTo b k i)
   unfolding placedTo

@@ -1,6 +1,7 @@
 // compress_inter4 with inter4_reassign_defaults.
 ghost use mathlib.Core.Path.{_≡_};
 ghost use Prim.Native.Nat.{_<_};
+ghost use Rattle.compress.specs.Network.{InOrder};
 ghost use Rattle.compress.specs.Inter4.{far as farOf, upward as upwardOf, candidate as candidateOf, walked as walkedOf, reassigned, firstEnds, compressInter4};
 use coding::Coded;
 use end_points::EndPoints;
@@ -27,18 +28,19 @@ fn upward(h: Held) -> bool
     h.min < 1.0 - h.max
 }
 
-fn candidate(b: &[f32; 16], h: Held, low: u32, high: u32) -> Held
-    requires { ⌜ low < high ⌝ }
+fn candidate(b: &[f32; 16], s: &[f32; 16], h: Held, low: u32, high: u32) -> Held
+    requires { ⌜ InOrder (now b) (now s) × (low < high) × (high < 16) ⌝ }
     ensures { λ r. ⌜ r ≡ candidateOf (now (b .entry)) h low high ⌝ }
 {
     if upward(h) {
-        return refine::rounds::hold(Kind::Four, b, crate::sorted::placed(b, low + 1), h.max);
+        return refine::rounds::hold(Kind::Four, b, crate::sorted::placed(b, s, low + 1), h.max);
     }
-    refine::rounds::hold(Kind::Four, b, h.min, crate::sorted::placed(b, high - 1))
+    refine::rounds::hold(Kind::Four, b, h.min, crate::sorted::placed(b, s, high - 1))
 }
 
 // The Rust remembers the side of a move that failed and stops when that side is next again. It always is: nothing has changed by then.
-fn walked(b: &[f32; 16], start: Held, from: u32, to: u32) -> Held
+fn walked(b: &[f32; 16], s: &[f32; 16], start: Held, from: u32, to: u32) -> Held
+    requires { ⌜ InOrder (now b) (now s) × (to < 16) ⌝ }
     ensures { λ r. ⌜ r ≡ walkedOf (now (b .entry)) 4 start from to ⌝ }
 {
     let mut h = start;
@@ -49,7 +51,7 @@ fn walked(b: &[f32; 16], start: Held, from: u32, to: u32) -> Held
         if high <= low {
             return h;
         }
-        let t = candidate(b, h, low, high);
+        let t = candidate(b, s, h, low, high);
         if !(t.error < h.error) {
             return h;
         }
@@ -69,8 +71,10 @@ fn inter4_reassign_defaults(b: &[f32; 16], p: Pair) -> Pair
         return p;
     }
     let start = refine::rounds::hold(Kind::Four, b, p.0, p.1);
+    let s = crate::network::sorted(b);
     let h = walked(
         b,
+        &s,
         start,
         crate::sorted::place_of(b, p.0),
         crate::sorted::place_of(b, p.1),

@@ -1,6 +1,8 @@
-// The samples by place, in place of the Rust's sorted array: no more than four places are asked for.
+// The samples by place: how many are not above a float, and a sample looked up in the sorted sixteen.
 ghost use mathlib.Core.Path.{_≡_};
+ghost use Prim.Native.Nat.{_<_};
 ghost use Rattle.compress.specs.Sorted.{notAbove, placed as placedOf, placeOf};
+ghost use Rattle.compress.specs.Network.{InOrder, firstZero};
 
 fn not_above(b: &[f32; 16], x: f32) -> u32
     ensures { λ r. ⌜ r ≡ notAbove (now (b .entry)) x ⌝ }
@@ -12,16 +14,26 @@ fn not_above(b: &[f32; 16], x: f32) -> u32
     n
 }
 
-pub fn placed(b: &[f32; 16], k: u32) -> f32
+// Both zeros are one place, for which the first of the block stands. After entry there is but one zero, and this never runs.
+fn first_zero(b: &[f32; 16]) -> f32
+    ensures { λ r. ⌜ r ≡ firstZero (now (b .entry)) ⌝ }
+{
+    let mut z = 1.0f32;
+    for i in 0..16usize {
+        z = floats::pick(z == 0.0, z, b[i]);
+    }
+    z
+}
+
+pub fn placed(b: &[f32; 16], s: &[f32; 16], k: u32) -> f32
+    requires { ⌜ InOrder (now b) (now s) × (k < 16) ⌝ }
     ensures { λ r. ⌜ r ≡ placedOf (now (b .entry)) k ⌝ }
 {
-    let mut least = 1.0f32;
-    for i in 0..16usize {
-        let x = b[i];
-        let n = not_above(b, x);
-        least = floats::pick(k < n, floats::min(least, x), least);
+    let x = s[k as usize];
+    if x == 0.0 {
+        return first_zero(b);
     }
-    least
+    x
 }
 
 pub fn place_of(b: &[f32; 16], x: f32) -> u32

@@ -12,6 +12,7 @@ pub mod Demand3
 pub mod Halves
 pub mod TwoChannels
 pub mod EncoderSteps
+pub mod SameSteps
 pub mod Literals
 pub mod Choices
 pub mod RoundTrip

@@ -7,6 +7,7 @@ pub mod Demand2
 pub mod Demand3
 pub mod TwoChannels
 pub mod EncoderSteps
+pub mod SameSteps
 pub mod WorkedValues
 pub mod Literals
 pub mod RoundTrip

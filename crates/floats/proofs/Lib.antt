@@ -20,3 +20,4 @@ pub mod Bounds
 pub mod Rounding
 pub mod RoundedResult
 pub mod Table
+pub mod Equal

@@ -1,5 +1,7 @@
 use Rattle.compress.specs.Inter4.{reassigned}
+use native.Mathlib.Omega.{arith}
 use borrow.Author.Needs.{needs}
+use Rattle.compress.proofs.Counting.{count-le}
 use Rattle.compress.proofs.inter4.inter4_reassign_defaults.Statement.{statement}
 use Rattle.compress.proofs.inter4.inter4_reassign_defaults.Tie as tie
 
@@ -13,6 +15,9 @@ returns c = rw (← c .before .far .ensures, c .if1 .taken)
 hold-requires : tie.Need-hold-requires
 hold-requires c κs = search needs
 
+sorted-requires : tie.Need-sorted-requires
+sorted-requires c κs = search needs
+
 place-of-requires : tie.Need-place-of-requires
 place-of-requires c κs = search needs
 
@@ -20,12 +25,15 @@ place-of-requires-2 : tie.Need-place-of-requires-2
 place-of-requires-2 c κs = search needs
 
 walked-requires : tie.Need-walked-requires
-walked-requires c κs = search needs
+walked-requires c κs =
+    let s = c .before .before .before in
+    let a = s .before .before .before .before .args in
+    (s .sorted .ensures, rw (c .place-of2 .ensures) (omega (arith, count-le (a .b .now) (a .p .1) 16)))
 
 returns-2 : tie.Need-returns-2
 unfolding reassigned
 returns-2 c =
-    let k = c .before .before .before in
+    let k = c .before .before .before .before .before in
     rw (← k .before .before .far .ensures, k .before .if1 .left, c .walked .ensures, c .before .place-of2 .ensures, c .before .before .place-of .ensures, k .hold .ensures)
 
 pub inter4-reassign-defaults-spec : {M : Type 1} → statement M
@@ -35,6 +43,7 @@ inter4-reassign-defaults-spec =
     far-requires
     returns
     hold-requires
+    sorted-requires
     place-of-requires
     place-of-requires-2
     walked-requires

@@ -9,10 +9,10 @@ use Rattle.compress.proofs.inter4.walked.Statement.{statement}
 use Rattle.compress.proofs.inter4.walked.Tie as tie
 
 abbrev Inv-loop : tie.InvT-loop
-Inv-loop b from to h₀ low₀ high₀ left₀ h low high left = (high ≤ high₀) × (walked b left h low high ≡ walked b left₀ h₀ low₀ high₀)
+Inv-loop b s from to h₀ low₀ high₀ left₀ h low high left = (high ≤ high₀) × (walked b left h low high ≡ walked b left₀ h₀ low₀ high₀)
 
 abbrev μ-loop : tie.MeasureT-loop
-μ-loop b from to h₀ low₀ high₀ left₀ h low high left = left
+μ-loop b s from to h₀ low₀ high₀ left₀ h low high left = left
 
 loop-holds : tie.Need-loop-holds Inv-loop μ-loop
 loop-holds c = (search needs, refl)
