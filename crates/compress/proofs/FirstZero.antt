@@ -9,10 +9,10 @@ use native.Mathlib.Omega.{arith}
 use borrow.Author.Tests.{ltb-true}
 use lib.Dec.{T, ltb}
 use lib.Ieee.{Float, nan, binary32, lt, le, eq, fits, ofBits}
-use Rattle.floats.specs.Arithmetic.{f0, f1}
+use Rattle.floats.specs.Arithmetic.{f0, f1, f2}
 use Rattle.floats.specs.Helpers.{minOf, laneMin}
 use Rattle.floats.proofs.Tests.{clash, either}
-use Rattle.floats.proofs.Order.{lt-irrefl, lt-right, lt-of-not, le-left, le-right, le-lt-trans, le-trans, not-of-le}
+use Rattle.floats.proofs.Order.{lt-irrefl, lt-right, lt-of-not, le-left, le-right, lt-le-trans, le-lt-trans, le-trans, not-of-le}
 use Rattle.floats.proofs.Ranges.{real-0}
 use Rattle.floats.proofs.Equal.{le-of-eq, eq-of-le}
 use Rattle.block.specs.Samples.{pixelAt}
@@ -88,4 +88,4 @@ module _ (b : List Float) (k : ℕ) where
       (placed-below-1 b k 16)
     where
       entered : (i : ℕ) → i < 16 → lt (pixelAt b i) f1 ≡ true → pixelAt (capped b) i ≡ pixelAt b i
-      entered i h l = unfold capped in getD-tabulate (λ i. laneMin (pixelAt b i) f1) nan h ∙ rw l
+      entered i h l = unfold capped in getD-tabulate (λ i. laneMin (pixelAt b i) f2) nan h ∙ rw (lt-le-trans (pixelAt b i) f1 f2 l (unfold le ofBits in refl))

@@ -8,7 +8,7 @@ use Prim.Native.Nat.{ℕ, zero, suc, _+_, _-_, _/_, _%_, _<_}
 use lib.Dec.{T, eqb}
 use lib.ListN.{getD, set}
 use lib.Ieee.{Float, nan, binary32, lt, eq, fits}
-use Rattle.floats.specs.Arithmetic.{f0, f1}
+use Rattle.floats.specs.Arithmetic.{f0, f1, f2}
 use Rattle.floats.specs.Helpers.{laneMin}
 use Rattle.block.specs.Samples.{pixelAt, perPixel}
 
@@ -61,12 +61,16 @@ whole = pass 1 0 1 ++ pass 1 1 7 ++ pass 1 1 3 ++ pass 1 1 1
 abbrev pub steps : List Step
 steps = fourths ++ halves ++ whole
 
--- The sixteen as they enter: 1 for what is above it and for a NaN, as in `placed`.
+-- The sixteen as they enter: 2 for a NaN and for what is above it. `placed` has 1 for both, which a place that is looked up is held to.
 unfoldable pub capped : List Float → List Float
-capped b = perPixel (λ i. laneMin (pixelAt b i) f1)
+capped b = perPixel (λ i. laneMin (pixelAt b i) f2)
 
 unfoldable pub sorted : List Float → List Float
 sorted b = run smallerFirst steps (capped b)
+
+-- a place that is looked up
+abbrev pub heldTo1 : Float → Float
+heldTo1 x = laneMin x f1
 
 -- s is that, and its values are f32: two of them that are equal and no zeros are the same datum.
 pub record InOrder (b s : List Float) : Type 0 where

@@ -71,14 +71,10 @@ fn inter4_reassign_defaults(b: &[f32; 16], p: Pair) -> Pair
         return p;
     }
     let start = refine::rounds::hold(Kind::Four, b, p.0, p.1);
+    let from = crate::sorted::place_of(b, p.0);
+    let to = crate::sorted::place_of(b, p.1);
     let s = crate::network::sorted(b);
-    let h = walked(
-        b,
-        &s,
-        start,
-        crate::sorted::place_of(b, p.0),
-        crate::sorted::place_of(b, p.1),
-    );
+    let h = walked(b, &s, start, from, to);
     Pair(h.min, h.max)
 }
 

@@ -1,4 +1,4 @@
-// A sort of sixteen floats by steps that are the same for all: no step looks at what another did, and none branches on a float.
+// A sort of sixteen floats by 63 steps that are the same for every block. An exchange is two selects and no branch.
 ghost use mathlib.Core.Path.{_≡_};
 ghost use Prim.Native.Nat.{ℕ, _≤_, _<_};
 ghost use lib.Dec.{T};
@@ -30,13 +30,15 @@ fn pass(s: &mut [f32; 16], p: usize, r: usize, d: usize)
     }
 }
 
+// At 2, and not at the 1 that a place is held to: the entry's own cap at 1 makes a second one nothing to the compiler, which then lays some exchanges out
+// as branches (docs/SPEED.md).
 fn capped(b: &[f32; 16]) -> [f32; 16]
     ensures value { λ r. ⌜ r ≡ cappedOf (now (b .entry)) ⌝ }
     ensures fit { λ r. ⌜ ((i : ℕ) → i < 16 → T (fits binary32 (pixelAt r i))) ⌝ }
 {
     let mut s = [1.0f32; 16];
     for i in 0..16usize {
-        s[i] = floats::lane_min(b[i], 1.0);
+        s[i] = floats::lane_min(b[i], 2.0);
     }
     s
 }

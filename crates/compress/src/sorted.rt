@@ -14,7 +14,7 @@ fn not_above(b: &[f32; 16], x: f32) -> u32
     n
 }
 
-// Both zeros are one place, for which the first of the block stands. After entry there is but one zero, and this never runs.
+// Zeros of both signs are equal, and the sort may exchange them: the first of the block stands for all. After entry there is one zero only.
 fn first_zero(b: &[f32; 16]) -> f32
     ensures { λ r. ⌜ r ≡ firstZero (now (b .entry)) ⌝ }
 {
@@ -29,7 +29,7 @@ pub fn placed(b: &[f32; 16], s: &[f32; 16], k: u32) -> f32
     requires { ⌜ InOrder (now b) (now s) × (k < 16) ⌝ }
     ensures { λ r. ⌜ r ≡ placedOf (now (b .entry)) k ⌝ }
 {
-    let x = s[k as usize];
+    let x = floats::lane_min(s[k as usize], 1.0);
     if x == 0.0 {
         return first_zero(b);
     }

@@ -8,10 +8,10 @@ use Prim.Native.Nat.{ℕ, _≤_, _<_}
 use lib.Dec.{ltb}
 use lib.ListN.{length, getD, set}
 use lib.Ieee.{Float, le, eq}
-use Rattle.floats.specs.Arithmetic.{f0, f1}
+use Rattle.floats.specs.Arithmetic.{f0, f2}
 use Rattle.block.specs.Samples.{pixelAt}
 use Rattle.compress.specs.Sorted.{notAbove, placed}
-use Rattle.compress.specs.Network.{Step, smallerFirst, stepped, steps, sorted, InOrder, firstZero}
+use Rattle.compress.specs.Network.{Step, smallerFirst, stepped, steps, sorted, heldTo1, InOrder, firstZero}
 
 abbrev pub stepAt : ℕ → Step
 stepAt n = getD steps n (record { i = 0; j = 0 })
@@ -23,8 +23,9 @@ pub record SameSteps : Type 0 where
   -- Whatever the values, a step leaves them as they are or exchanges its two places.
   pub exchange : (s : List Float) (t : Step)
       → (stepped smallerFirst s t ≡ s) ⊎ (stepped smallerFirst s t ≡ set (set s (t .i) (pixelAt s (t .j))) (t .j) (pixelAt s (t .i)))
-  -- After them the places are in order, for every block, NaN and both zeros too, and place k is not above x exactly when 1 is not or more than k samples are not.
+  -- After them the places are in order, for every block, NaN and both zeros too, and place k is not above x exactly when 2 is not, which stands for a NaN and for what is
+  -- above it, or more than k samples are not.
   pub in-order : (b : List Float) (k l : ℕ) → k ≤ l → l < 16 → le (pixelAt (sorted b) k) (pixelAt (sorted b) l) ≡ true
-  pub places : (b : List Float) (x : Float) (k : ℕ) → k < 16 → le (pixelAt (sorted b) k) x ≡ le f1 x || ltb k (notAbove b x)
-  -- What is looked up is the sample of the place: of zeros the first of the block.
-  pub place : (b s : List Float) (k : ℕ) → k < 16 → InOrder b s → cond (eq (pixelAt s k) f0) (firstZero b) (pixelAt s k) ≡ placed b k
+  pub places : (b : List Float) (x : Float) (k : ℕ) → k < 16 → le (pixelAt (sorted b) k) x ≡ le f2 x || ltb k (notAbove b x)
+  -- What is looked up, held to 1, is the sample of the place: of zeros the first of the block.
+  pub place : (b s : List Float) (k : ℕ) → k < 16 → InOrder b s → cond (eq (heldTo1 (pixelAt s k)) f0) (firstZero b) (heldTo1 (pixelAt s k)) ≡ placed b k

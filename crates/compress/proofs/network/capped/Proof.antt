@@ -6,7 +6,7 @@ use lib.Ieee.{nan, binary32, fits}
 use borrow.Author.Needs.{needs}
 use borrow.Author.Count.{below-more}
 use Rattle.floats.proofs.Tests.{so}
-use Rattle.floats.specs.Arithmetic.{f1}
+use Rattle.floats.specs.Arithmetic.{f2}
 use Rattle.floats.specs.Helpers.{laneMin}
 use Rattle.block.specs.Samples.{pixelAt}
 use Rattle.block.proofs.Fill.{Filled, fill-start, fill-step, fill-end, getD-tabulate}
@@ -15,7 +15,7 @@ use Rattle.compress.proofs.network.capped.Statement.{statement}
 use Rattle.compress.proofs.network.capped.Tie as tie
 
 abbrev Inv-loop : tie.InvT-loop
-Inv-loop b s₀ i₀ s i = Filled nan (λ (k : ℕ). laneMin (pixelAt b k) f1) 16 s i × ((k : ℕ) → k < i → T (fits binary32 (laneMin (pixelAt b k) f1)))
+Inv-loop b s₀ i₀ s i = Filled nan (λ (k : ℕ). laneMin (pixelAt b k) f2) 16 s i × ((k : ℕ) → k < i → T (fits binary32 (laneMin (pixelAt b k) f2)))
 
 abbrev μ-loop : tie.MeasureT-loop
 μ-loop b s₀ i₀ s i = 16 - i
@@ -48,7 +48,7 @@ loop-again : tie.Need-loop-again Inv-loop μ-loop
 loop-again c =
     let h = c .before .before .before .loop in (
       fill-step (h .inv .0) (search needs) (c .lane-min .ensures),
-      below-more (λ (k : ℕ). T (fits binary32 (laneMin (pixelAt (c .before .before .before .before .args .b .now) k) f1))) (h .i) (h .inv .1) (rw (← c .lane-min .ensures) (so (c .lane-min .ok))),
+      below-more (λ (k : ℕ). T (fits binary32 (laneMin (pixelAt (c .before .before .before .before .args .b .now) k) f2))) (h .i) (h .inv .1) (rw (← c .lane-min .ensures) (so (c .lane-min .ok))),
     )
 
 returns : tie.Need-returns Inv-loop μ-loop
