@@ -10,10 +10,9 @@ use borrow.Author.Tests.{lt-ltb, le-ltb}
 use lib.Dec.{ltb}
 use lib.Ieee.{Float, le, lt, eq}
 use Rattle.floats.specs.Arithmetic.{f0}
-use Rattle.floats.specs.Helpers.{minOf}
 use Rattle.block.specs.Samples.{pixelAt}
 use Rattle.refine.specs.declared.rounds.Held.{Held}
-use Rattle.compress.specs.Sorted.{countTo, notAbove, placedTo}
+use Rattle.compress.specs.Sorted.{countTo}
 use Rattle.compress.specs.Network.{firstZeroTo}
 use Rattle.compress.specs.Inter4.{upward, candidate, walked}
 
@@ -31,10 +30,6 @@ module _ (b : List Float) where
   pub first-zero-more : (i : ℕ) → firstZeroTo b (i + 1) ≡ cond (eq (firstZeroTo b i) f0) (firstZeroTo b i) (pixelAt b i)
   unfolding firstZeroTo
   first-zero-more i = rw add-one
-
-  pub placed-more : (k i : ℕ) → placedTo b k (i + 1) ≡ cond (ltb k (notAbove b (pixelAt b i))) (minOf (placedTo b k i) (pixelAt b i)) (placedTo b k i)
-  unfolding placedTo
-  placed-more k i = rw add-one
 
   -- one move more, while moves are left, places remain between the two and the error gets smaller
   pub walked-step : (n : ℕ) (h : Held) (low high : ℕ) → 0 < n → low < high → lt (candidate b h low high .error) (h .error) ≡ true

@@ -7,7 +7,7 @@ use Prim.Native.Nat.{ℕ, _+_, _/_, _%_, _≤_, _<_}
 use native.Mathlib.Omega.{arith}
 use lib.Dec.{T, ltb}
 use lib.ListN.{length, getD}
-use Rattle.floats.proofs.Table.{both, both-left, both-right, all, at}
+use Rattle.floats.proofs.Table.{both, all, at}
 use Rattle.block.specs.Samples.{tabulate, perPixel}
 use Rattle.compress.specs.Network.{Choice, stepped, run, stepsFrom, fourths, halves, whole, steps}
 use Rattle.compress.proofs.Steps.{run-append}

@@ -1,7 +1,7 @@
 -- The steps of the sort, counted and looked at one by one, and what they come to.
 use mathlib.Core.Path.{refl}
 use mathlib.Core.Bool.{Bool}
-use Prim.Native.Nat.{ℕ, _<_}
+use Prim.Native.Nat.{ℕ}
 use lib.Dec.{T, ltb, ltb→lt}
 use Rattle.floats.proofs.Table.{both, both-left, both-right, all, at}
 use Rattle.compress.specs.Network.{stepsFrom}
