@@ -359,6 +359,27 @@ impl Blocks<'_> {
     }
 }
 
+/// Zeros of both signs, NaN, 1, any float, or one of few values: what no block holds after entry, and equal ones.
+fn unlike(w: &Words) -> f32 {
+    match w.below(8) {
+        0 => 0.0,
+        1 => -0.0,
+        2 => f32::NAN,
+        3 => 1.0,
+        4 => w.any(),
+        _ => w.below(24) as f32 / 16.0 - 0.25,
+    }
+}
+
+/// The samples by place, by a sort of the standard library: NaN left out, 1 for what is not below it and for places that are left over, and of equal
+/// samples the first of the block.
+fn places(samples: [f32; 16]) -> [f32; 16] {
+    let mut sorted = samples.to_vec();
+    sorted.retain(|x| *x < 1.0);
+    sorted.sort_by(|a, b| a.partial_cmp(b).unwrap());
+    from_fn(|k| sorted.get(k).map_or(1.0, |x| samples.into_iter().find(|y| y == x).unwrap()))
+}
+
 pub(super) fn compare_all(seed: u64, n: u64, edges: &[f32]) -> bool {
     let blocks = Blocks { seed, n, edges };
     let mut same = compare(
@@ -388,6 +409,18 @@ pub(super) fn compare_all(seed: u64, n: u64, edges: &[f32]) -> bool {
         },
     );
     same &= blocks.compare("mean", |_, b| bits(inner_mean(b)), |_, b| bits(mean(b)));
+
+    same &= compare(
+        "places",
+        n,
+        |i| {
+            let w = Words::new(seed, i);
+            let family = w.below(2 * FAMILIES);
+            word_of(if family < FAMILIES { samples(&w, family, edges) } else { from_fn(|_| unlike(&w)) })
+        },
+        |s| out(|out| inner_places(&float::<16>(s).map(quiet), out)),
+        |s| places(float(s)).map(bits),
+    );
 
     same &=
         blocks.palette::<Inter6Palette>("six", inner_palette_error6, inner_closest6, inner_block_closest6, inner_dither6);

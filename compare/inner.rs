@@ -45,6 +45,7 @@ unsafe extern "C" {
     safe fn inner_min_max(b: &[f32; 16], out: &mut [f32; 2]);
     safe fn inner_min_max_with_threshold(b: &[f32; 16], threshold: f32, out: &mut [f32; 2]);
     safe fn inner_mean(b: &[f32; 16]) -> f32;
+    safe fn inner_places(b: &[f32; 16], out: &mut [f32; 16]);
     safe fn inner_palette_error6(b: &[f32; 16], c0: f32, c1: f32) -> f32;
     safe fn inner_palette_error4(b: &[f32; 16], c0: f32, c1: f32) -> f32;
     safe fn inner_closest6(c0: f32, c1: f32, pixel: f32, out: &mut [f32; 2]) -> u8;

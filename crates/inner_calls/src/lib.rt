@@ -8,9 +8,12 @@ ghost use lib.ListN.{getD};
 ghost use Rattle.floats.specs.Helpers.{absOf, minOf, maxOf, laneMin, laneMax, clampOf, entryClamp, truncOf, byteOf, byteUpTo7};
 ghost use Rattle.values.specs.Values.{valueOf, normOf, signedOf};
 ghost use Rattle.index_list.specs.Indexes.{filledTo};
+ghost use Rattle.block.specs.Samples.{perPixel};
 ghost use Rattle.block.specs.Block.{entered, mean};
 ghost use Rattle.palette.specs.declared.Kind.the-variants.{Six, Four};
 ghost use Rattle.palette.specs.PaletteError.{paletteError};
+ghost use Rattle.compress.specs.Sorted.{placed};
+ghost use Rattle.compress.specs.Network.{InOrder};
 
 pub mod public_calls;
 
@@ -251,6 +254,28 @@ pub extern "C" fn inner_mean(b: &[f32; 16]) -> f32
     ensures { λ r. ⌜ r ≡ mean (now (b .entry)) ⌝ }
 {
     block::mean(b)
+}
+
+// ---- compress
+
+#[no_mangle]
+pub extern "C" fn inner_sorted(b: &[f32; 16], out: &mut [f32; 16])
+    ensures { λ r. ⌜ InOrder (now (b .entry)) (now (out .exit)) ⌝ }
+{
+    *out = compress::network::sorted(b);
+}
+
+// All sixteen, where the encoder asks for four at most.
+#[no_mangle]
+pub extern "C" fn inner_places(b: &[f32; 16], out: &mut [f32; 16])
+    ensures { λ r. ⌜ now (out .exit) ≡ perPixel (placed (now (b .entry))) ⌝ }
+{
+    let s = compress::network::sorted(b);
+    let mut places = [1.0f32; 16];
+    for i in 0..16usize {
+        places[i] = compress::sorted::placed(b, &s, i as u32);
+    }
+    *out = places;
 }
 
 // ---- palette
