@@ -10,7 +10,7 @@ use lib.ListN.{getD, set, List·getD-map}
 use lib.Ieee.{Float, nan, lt, le, isNan}
 use lib.Ieee.Bits.{is-true}
 use borrow.Author.Tests.{ltb-true}
-use Rattle.floats.proofs.Tests.{clash, so}
+use Rattle.floats.proofs.Tests.{clash}
 use Rattle.floats.proofs.Table.{both, both-left, both-right}
 use Rattle.floats.proofs.Order.{le-left, le-of-lt, le-of-not, le-trans}
 use Rattle.block.specs.Samples.{pixelAt}
