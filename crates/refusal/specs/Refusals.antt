@@ -9,7 +9,7 @@ use lib.Ieee.{Float, isNan}
 use Rattle.options.specs.declared.Options.{Options}
 use Rattle.place.specs.Place.{longestSide, noBlock, bc4Size, encodedLength}
 use Rattle.refusal.specs.declared.Refusal.{Refusal}
-use Rattle.refusal.specs.declared.Refusal.the-variants.{SideIsZero, SampleCount, EncodedLength, OutputLength, DitheredResend, NoSuchBlock, SampleIsNan, WordMalformed, SideTooLarge, SideNotMultipleOf4, TileSampleIsNan, DdsHeader, DdsBody, InChannel}
+use Rattle.refusal.specs.declared.Refusal.the-variants.{SideIsZero, SampleCount, EncodedLength, OutputLength, DitheredResend, NoSuchBlock, SampleIsNan, WordMalformed, SideTooLarge, SideNotMultipleOf4, TileSampleIsNan, DdsHeader, DdsBody, InChannel, EditionReused, EditionOpposite}
 use Rattle.refusal.specs.declared.Side.the-variants.{Width, Height}
 use Rattle.refusal.specs.declared.Spot.{Spot}
 use Rattle.refusal.specs.declared.Channel.{Channel}
@@ -34,6 +34,8 @@ numberOf (TileSampleIsNan spot) = 7
 numberOf (DdsHeader field) = numberFor field
 numberOf DdsBody = 15
 numberOf (InChannel fault) = faultNumber fault
+numberOf EditionReused = 16
+numberOf EditionOpposite = 17
 
 -- What a refusal brings with it, as four numbers: what, index, row and column. Where it has something to say all four are written, 0 for what it says
 -- nothing about; where it has not they stay as they were. Refusals 1, 9 and 10 say the side; 7 says the lowest index, of a tile with its row and column;
@@ -53,6 +55,8 @@ detailOf DitheredResend before = before
 detailOf NoSuchBlock before = before
 detailOf WordMalformed before = before
 detailOf DdsBody before = before
+detailOf EditionReused before = before
+detailOf EditionOpposite before = before
 
 -- ---- a check: a refusal, and whether it applies
 pub record Check : Type 0 where

@@ -21,7 +21,7 @@ pub enum Refusal {
     SideIsZero(Side),
     // The sample count is not 16, or not width * height.
     SampleCount,
-    // The encoded length is not that of a block, or not that of the tile's blocks.
+    // The encoded length is not that of a block, or not that of the tile's blocks; or a record of editions has not one entry for each block.
     EncodedLength,
     // The output is shorter than the tile's blocks, or than a file of them.
     OutputLength,
@@ -45,6 +45,10 @@ pub enum Refusal {
     DdsBody,
     // The samples of one of two channels are refused, by the number that this has where there is one: the first channel that is wrong, and what is.
     InChannel(Fault),
+    // The place holds a message's edition with other bytes.
+    EditionReused,
+    // A message's edition is 32,768 from the one that the place holds: as far ahead as behind.
+    EditionOpposite,
 }
 
 // The channels of a block or a tile that has two.

@@ -105,6 +105,8 @@ pub fn number(refusal: Refusal) -> u8
         Refusal::DdsHeader(field) => number_for(field),
         Refusal::DdsBody => 15,
         Refusal::InChannel(fault) => fault_number(fault),
+        Refusal::EditionReused => 16,
+        Refusal::EditionOpposite => 17,
     }
 }
 

@@ -6,7 +6,7 @@ use mathlib.Core.List.{List, [], _∷_}
 use Prim.Native.Nat.{ℕ}
 use borrow.Author.Needs.{needs}
 use Rattle.refusal.specs.declared.Refusal.{Refusal}
-use Rattle.refusal.specs.declared.Refusal.the-variants.{SideIsZero, SampleCount, EncodedLength, OutputLength, DitheredResend, NoSuchBlock, SampleIsNan, WordMalformed, SideTooLarge, SideNotMultipleOf4, TileSampleIsNan, DdsHeader, DdsBody, InChannel}
+use Rattle.refusal.specs.declared.Refusal.the-variants.{SideIsZero, SampleCount, EncodedLength, OutputLength, DitheredResend, NoSuchBlock, SampleIsNan, WordMalformed, SideTooLarge, SideNotMultipleOf4, TileSampleIsNan, DdsHeader, DdsBody, InChannel, EditionReused, EditionOpposite}
 use Rattle.refusal.proofs.Refusal.{the-type}
 use Rattle.refusal.specs.Refusals.{detailOf}
 use Rattle.refusal.proofs.told.detail.Statement.{statement}
@@ -14,7 +14,7 @@ use Rattle.refusal.proofs.told.detail.Tie as tie
 
 -- the places of the others in the enum
 abbrev silent : List ℕ
-silent = 1 ∷ 2 ∷ 3 ∷ 4 ∷ 5 ∷ 7 ∷ 12 ∷ []
+silent = 1 ∷ 2 ∷ 3 ∷ 4 ∷ 5 ∷ 7 ∷ 12 ∷ 14 ∷ 15 ∷ []
 
 others : (q : Refusal) {before : List ℕ} → OneOf silent (tagOf the-type q) → before ≡ detailOf q before
 others (SideIsZero side) h = absurd (miss silent 0 tt h)
@@ -31,6 +31,8 @@ others (TileSampleIsNan spot) h = absurd (miss silent 10 tt h)
 others (DdsHeader field) h = absurd (miss silent 11 tt h)
 others DdsBody h = refl
 others (InChannel fault) h = absurd (miss silent 13 tt h)
+others EditionReused h = refl
+others EditionOpposite h = refl
 
 enum-known-refusal : tie.Need-enum-known-refusal
 enum-known-refusal c = search needs

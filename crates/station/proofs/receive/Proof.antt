@@ -1,0 +1,188 @@
+-- `station::receive` meets its contract: what its place holds answers the message, and takes it where it is news.
+use denote.Ref.{now}
+use mathlib.Core.Path.{_≡_, refl, sym, _∙_}
+use Prim.Native.Nat.{_+_, _-_, _*_, _<_, _≤_}
+use native.Mathlib.Omega.{arith}
+use lib.ListN.{length, length-take, length-drop}
+use borrow.Author.Needs.{needs}
+use Rattle.place.specs.Place.{longestSide, bc4Size}
+use Rattle.refusal.specs.declared.Checked.the-variants.{Passed}
+use Rattle.refusal.specs.Refusals.{firstOf}
+use Rattle.refusal.proofs.Firsts.{refused-before, passed-before}
+use Rattle.station.specs.Receiving.{shapeChecks, receiveAnswer}
+use Rattle.station.proofs.Room.{Room, room as message-room}
+use Rattle.station.proofs.receive.Statement.{statement}
+use Rattle.station.proofs.receive.Tie as tie
+
+message-requires : tie.Need-message-requires
+message-requires c κs = search needs
+
+enum-known-checked : tie.Need-enum-known-checked
+enum-known-checked c = search needs
+
+enum-told : tie.Need-enum-told
+enum-told c = search needs
+
+passed : (t : tie.After-enum-told) → let a = t .before .before .before .before .before .before .args in
+    firstOf (shapeChecks (length (now (a .tile))) (length (now (a .editions))) (length (now (a .block))) (a .width) (a .height) (a .column) (a .row)) ≡ Passed
+passed t = sym (t .before .before .message .ensures) ∙ t .enum-told .given .1
+
+room : (t : tie.After-enum-told) → let a = t .before .before .before .before .before .before .args in
+    Room (length (now (a .tile))) (length (now (a .editions))) (length (now (a .block))) (a .width) (a .height) (a .column) (a .row)
+room t = message-room _ _ _ _ _ _ _ (passed t)
+
+block-at-requires : tie.Need-block-at-requires
+block-at-requires c κs = let r = room c in (r .few, omega (arith, r .bytes, r .small))
+
+block-at-requires-2 : tie.Need-block-at-requires-2
+block-at-requires-2 c κs = let r = room (c .before) in (r .few, omega (arith, r .few))
+
+mul-answer : tie.Need-mul-answer
+mul-answer c = search needs
+
+slice-read-answer : tie.Need-slice-read-answer
+slice-read-answer c = let r = room (c .before .before .before) in rw (c .before .block-at2 .ensures) (r .entry)
+
+add-answer : tie.Need-add-answer
+add-answer c = let r = room (c .before .before .before) in omega (arith, r .bytes, r .small, c .before .before .block-at .ensures)
+
+sub-answer : tie.Need-sub-answer
+sub-answer c = search needs
+
+part-answer-start : tie.Need-part-answer-start
+part-answer-start c = search needs
+
+part-answer-end : tie.Need-part-answer-end
+part-answer-end c = let r = room (c .before .before .before .before) in omega (arith, r .bytes, c .before .before .before .block-at .ensures)
+
+answer-requires : tie.Need-answer-requires
+answer-requires c κs =
+    let at = c .before .before .before .before in
+    let r = room (at .before) in
+    (simp (length-take, length-drop) (omega (arith, r .bytes, at .block-at .ensures)), r .eight)
+
+said : (c : tie.After-answer) → let a = c .before .before .before .before .before .before .before .before .before .before .before .before .args in
+    c .answer .result ≡ receiveAnswer (record { tile = now (a .tile); editions = now (a .editions) }) (a .width) (a .height)
+    (record { column = a .column; row = a .row; edition = a .edition; block = now (a .block) })
+said c =
+    let at = c .before .before .before .before .before in
+    let entry = c .before .before .before .before in
+    let more : at .block-at .result + bc4Size - at .block-at .result ≡ bc4Size = omega arith in
+    rw (passed-before (shapeChecks _ _ _ _ _ _ _) _ (passed (at .before)), ← at .block-at .ensures, ← entry .block-at2 .ensures) (rw more at (c .answer .ensures))
+
+-- where the message goes is in the tile and in the record
+place : (c : tie.After-answer) → let a = c .before .before .before .before .before .before .before .before .before .before .before .before .args in
+    let at = c .before .before .before .before .before .block-at .result in
+    let entry = c .before .before .before .before .block-at2 .result in
+    (length (now (a .block)) ≡ bc4Size) × (at + bc4Size ≤ length (now (a .tile))) × (length (now (a .tile)) ≤ longestSide * longestSide) × (entry < length (now (a .editions)))
+place c =
+    let at = c .before .before .before .before .before in
+    let r = room (at .before) in
+    (r .eight, rw (at .block-at .ensures) (r .bytes), r .small, rw (c .before .before .before .before .block-at2 .ensures) (r .entry))
+
+enum-told-2 : tie.Need-enum-told-2
+enum-told-2 c = search needs
+
+put-requires : tie.Need-put-requires
+put-requires c κs = place (c .before .before .before .before)
+
+enum-told-3 : tie.Need-enum-told-3
+enum-told-3 c = search needs
+
+put-requires-2 : tie.Need-put-requires-2
+put-requires-2 c κs = place (c .before .before .before .before)
+
+enum-told-4 : tie.Need-enum-told-4
+enum-told-4 c = search needs
+
+enum-told-5 : tie.Need-enum-told-5
+enum-told-5 c = search needs
+
+enum-known-answer : tie.Need-enum-known-answer
+enum-known-answer c = search needs
+
+returns : tie.Need-returns
+returns c = (rw (refused-before (shapeChecks _ _ _ _ _ _ _) _ (sym (c .before .before .before .message .ensures) ∙ c .before .checked .given .1)), (refl, refl))
+
+same-length : tie.Need-same-length
+same-length c = search needs
+
+same-length-2 : tie.Need-same-length-2
+same-length-2 c = search needs
+
+returns-2 : tie.Need-returns-2
+returns-2 c =
+    let put = c .before .before .before .before in
+    let told = put .before .before .before in
+    let at = told .before .before .before .before .before .before .before in
+    let entry = told .before .before .before .before .before .before in
+    (sym (told .enum-told2 .given .1) ∙ said (told .before .before), (rw (put .put .ensures .0, at .block-at .ensures), rw (put .put .ensures .1, entry .block-at2 .ensures)))
+
+same-length-3 : tie.Need-same-length-3
+same-length-3 c = search needs
+
+same-length-4 : tie.Need-same-length-4
+same-length-4 c = search needs
+
+returns-3 : tie.Need-returns-3
+returns-3 c =
+    let put = c .before .before .before .before in
+    let told = put .before .before .before in
+    let at = told .before .before .before .before .before .before .before in
+    let entry = told .before .before .before .before .before .before in
+    (sym (told .enum-told3 .given .1) ∙ said (told .before .before), (rw (put .put2 .ensures .0, at .block-at .ensures), rw (put .put2 .ensures .1, entry .block-at2 .ensures)))
+
+same-length-5 : tie.Need-same-length-5
+same-length-5 c = search needs
+
+returns-4 : tie.Need-returns-4
+returns-4 c = (sym (c .enum-told4 .given .1) ∙ said (c .before .before), (refl, refl))
+
+same-length-6 : tie.Need-same-length-6
+same-length-6 c = search needs
+
+returns-5 : tie.Need-returns-5
+returns-5 c = (sym (c .enum-told5 .given .1) ∙ said (c .before .before), (refl, refl))
+
+same-length-7 : tie.Need-same-length-7
+same-length-7 c = search needs
+
+returns-6 : tie.Need-returns-6
+returns-6 c = (sym (c .before .answer2 .given .1) ∙ said (c .before .before .before), (refl, refl))
+
+pub receive-spec : {M : Type 1} → statement M
+receive-spec =
+    tie.close
+    (tie.spec
+    message-requires
+    enum-known-checked
+    enum-told
+    block-at-requires
+    block-at-requires-2
+    mul-answer
+    slice-read-answer
+    add-answer
+    sub-answer
+    part-answer-start
+    part-answer-end
+    answer-requires
+    enum-told-2
+    put-requires
+    enum-told-3
+    put-requires-2
+    enum-told-4
+    enum-told-5
+    enum-known-answer
+    returns
+    same-length
+    same-length-2
+    returns-2
+    same-length-3
+    same-length-4
+    returns-3
+    same-length-5
+    returns-4
+    same-length-6
+    returns-5
+    same-length-7
+    returns-6)

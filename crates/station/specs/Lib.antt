@@ -1,0 +1,3 @@
+pub mod Editions
+pub mod Receiving
+pub mod Histories
