@@ -1,1 +1,10 @@
+pub mod Steps
+pub mod Standing
 pub mod Room
+pub mod Messages
+pub mod Arrivals
+pub mod Whole
+pub mod Converging
+pub mod Clears
+pub mod Forgotten
+pub mod Determined

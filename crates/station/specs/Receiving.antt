@@ -24,10 +24,14 @@ editionChecks entry edition bytes block =
     when EditionReused (not (isEmpty entry) && (eqb (ahead edition (editionIn entry)) 0 && not (alike bytes block bc4Size)))
     ∷ when EditionOpposite (not (isEmpty entry) && eqb (ahead edition (editionIn entry)) halfway) ∷ []
 
+abbrev pub fitChecks : Held → ℕ → ℕ → Message → List Check
+fitChecks held width height m = shapeChecks (length (held .tile)) (length (held .editions)) (length (m .block)) width height (m .column) (m .row)
+
+abbrev pub heldChecks : Held → ℕ → Message → List Check
+heldChecks held width m = editionChecks (entryAt held width (m .column) (m .row)) (m .edition) (bytesAt held width (m .column) (m .row)) (m .block)
+
 abbrev pub receiveChecks : Held → ℕ → ℕ → Message → List Check
-receiveChecks held width height m =
-    shapeChecks (length (held .tile)) (length (held .editions)) (length (m .block)) width height (m .column) (m .row)
-    ++ editionChecks (entryAt held width (m .column) (m .row)) (m .edition) (bytesAt held width (m .column) (m .row)) (m .block)
+receiveChecks held width height m = fitChecks held width height m ++ heldChecks held width m
 
 -- ---- what becomes of a message that is not refused: taken by an empty place; else what the difference says
 abbrev pub becomes : ℕ → ℕ → Received
