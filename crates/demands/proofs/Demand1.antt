@@ -40,6 +40,7 @@ use Rattle.demands.proofs.Refusing.{Alike, end, then, together, ascends
 use Rattle.demands.proofs.Conditions.{when-same, iff-refl, unequal-iff, output-iff, pair-output-iff, place-iff, word-iff, nan-said, nan-same, tile-nan-said, tile-nan-same}
 use Rattle.demands.proofs.Sizes.{size-alike, bytes-alike, pair-bytes-alike}
 use Rattle.demands.proofs.DdsConditions.{read-alike, write-alike}
+use Rattle.demands.proofs.StationConditions.{receive-exactly}
 
 -- ---- each check of a call is its condition
 encode-alike : (s : List Float) → Alike (encodeChecks s) (EncodeRefuses s)
@@ -149,6 +150,7 @@ demand-1 = record {
   write-dds = λ tile width height out. answer-exactly ofWritten NotWritten (Bytes _) refl (λ q. refl) _ (exactly (write-alike tile width height out));
   read-dds = λ file. rw (read-refusal file) (exactly (read-alike file));
   read-dds-refusal = λ file. sym (read-refusal file);
+  receive = receive-exactly;
   decode-leaves = λ q encoded snorm before. refl;
   tile-leaves = λ q samples width height o before. refl;
   view-empty = λ q tile width height column row e. rw e;
@@ -156,4 +158,5 @@ demand-1 = record {
   pair-view-empty = λ q tile width height column row e. rw e;
   write-dds-leaves = λ q tile width height snorm before. refl;
   read-dds-empty = λ q file e. rw e;
+  receive-leaves = λ q held width m. (refl, refl);
 }

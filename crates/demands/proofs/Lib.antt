@@ -4,8 +4,10 @@ pub mod Refusing
 pub mod Conditions
 pub mod Sizes
 pub mod DdsConditions
+pub mod StationConditions
 pub mod Demand1
 pub mod DdsFiles
+pub mod Station
 pub mod Demand2
 pub mod Series
 pub mod Demand3

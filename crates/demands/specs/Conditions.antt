@@ -3,7 +3,7 @@ use mathlib.Core.Path.{_≡_}
 use mathlib.Core.Bool.{true, false}
 use mathlib.Core.Logic.{_⊎_}
 use mathlib.Core.List.{List, [], _∷_}
-use Prim.Native.Nat.{ℕ, _+_, _*_, _/_, _%_, _^_, _<_, _≤_}
+use Prim.Native.Nat.{ℕ, _+_, _-_, _*_, _/_, _%_, _^_, _<_, _≤_}
 use lib.ListN.{length}
 use lib.Ieee.{Float, isNan}
 use Rattle.block.specs.Samples.{pixelAt}
@@ -91,3 +91,12 @@ abbrev pub BadBody : List ℕ → Type 0
 BadBody file =
     let body = field file 16 * field file 12 / 2 in
     ((four file ≡ dx10) × (length file ≡ 148 + body → ⊥)) ⊎ ((four file ≡ dx10 → ⊥) × (length file ≡ 128 + body → ⊥))
+
+-- ---- document 02, 5/12: a place whose entry of the record is n, and a message's edition. 0 is an empty place, any other n is edition n - 1, and editions wrap.
+-- 16: the same edition with other bytes
+abbrev pub Reused : ℕ → ℕ → List ℕ → List ℕ → Type 0
+Reused n edition bytes block = (0 < n) × ((n - 1) % 65536 ≡ edition % 65536) × (bytes ≡ block → ⊥)
+
+-- 17: exactly 32,768 steps apart
+abbrev pub Opposite : ℕ → ℕ → Type 0
+Opposite n edition = (0 < n) × ((n - 1 + 32768) % 65536 ≡ edition % 65536)

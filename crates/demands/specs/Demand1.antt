@@ -1,5 +1,5 @@
 -- Demand 1: a refusal is exactly the numbered one of its call's table, and changes no byte of a lent buffer. Each call has its conditions as a list, in the
--- order in which they are looked at; the answers are those that the contracts of `bc4`, `bc5` and `dds` cite. That every call ends with an answer, for every input, is what a contract
+-- order in which they are looked at; the answers are those that the contracts of `bc4`, `bc5`, `dds` and `station` cite. That every call ends with an answer, for every input, is what a contract
 -- without `requires` says.
 use mathlib.Core.Path.{_≡_}
 use mathlib.Core.Bool.{Bool, true}
@@ -9,7 +9,7 @@ use lib.ListN.{length}
 use lib.Ieee.{Float}
 use Rattle.options.specs.declared.Options.{Options}
 use Rattle.refusal.specs.declared.Refusal.{Refusal}
-use Rattle.refusal.specs.declared.Refusal.the-variants.{SampleCount, EncodedLength, OutputLength, DitheredResend, NoSuchBlock, WordMalformed, DdsBody}
+use Rattle.refusal.specs.declared.Refusal.the-variants.{SampleCount, EncodedLength, OutputLength, DitheredResend, NoSuchBlock, WordMalformed, DdsBody, EditionReused, EditionOpposite}
 use Rattle.refusal.specs.declared.Field.the-variants.{Header, Extension, Magic, HeaderSize, FourCharacters, ExtensionFormat, MipCount, Depth, CubeFaces, ArraySize}
 use Rattle.refusal.specs.declared.Checked.the-variants.{Refused}
 use Rattle.bc4.specs.declared.Tiled.the-variants.{Refused as NotTiled}
@@ -23,8 +23,11 @@ use Rattle.bc5.specs.Calls.{ofEncoded as ofPairEncoded, ofScored as ofPairScore
 use Rattle.dds.specs.Layout.{ddsMagic, bc4u, bc4s, dx10}
 use Rattle.dds.specs.Checks.{readChecks}
 use Rattle.dds.specs.Calls.{ofWritten, ofFound, writeAnswer, fileAfter, readAnswer, bodyOf}
+use Rattle.station.specs.declared.Received.the-variants.{Refused as NotReceived}
+use Rattle.station.specs.Editions.{Message, Held, entryAt, bytesAt}
+use Rattle.station.specs.Receiving.{ofReceived, receiveAnswer, tileAfter, editionsAfter}
 use Rattle.demands.specs.Exactly.{Condition, When, WhenUnequal, Exactly, InNumberOrder}
-use Rattle.demands.specs.Conditions.{Missing, BadWord, WhenNan, SizeRefuses, WhenTileNan, field, four, WhenWrong, NoneOf, CubeFace, BadBody}
+use Rattle.demands.specs.Conditions.{Missing, BadWord, WhenNan, SizeRefuses, WhenTileNan, field, four, WhenWrong, NoneOf, CubeFace, BadBody, Reused, Opposite}
 use Rattle.demands.specs.Channels.{PairEncodeRefuses, PairDecodeRefuses, PairErrorRefuses, PairResendRefuses, PairTileRefuses, PairViewRefuses}
 
 -- ---- which conditions each call looks at, and in which order. Encode: 2, 7
@@ -74,6 +77,15 @@ ReadRefuses file =
     ∷ WhenWrong ArraySize ((four file ≡ dx10) × (field file 140 ≡ 1 → ⊥))
     ∷ (SizeRefuses (field file 16) (field file 12) ++ When DdsBody (BadBody file) ∷ [])
 
+-- receive a message: 1, 9, 10, 3 of the tile, of the record and of the message, 6, 16, 17
+abbrev pub ReceiveRefuses : Held → ℕ → ℕ → Message → List Condition
+ReceiveRefuses held width height m =
+    SizeRefuses width height ++ WhenUnequal EncodedLength (length (held .tile)) (width * height / 2)
+    ∷ WhenUnequal EncodedLength (length (held .editions)) (width * height / 16) ∷ WhenUnequal EncodedLength (length (m .block)) 8
+    ∷ When NoSuchBlock (Missing width height (m .column) (m .row))
+    ∷ When EditionReused (Reused (entryAt held width (m .column) (m .row)) (m .edition) (bytesAt held width (m .column) (m .row)) (m .block))
+    ∷ When EditionOpposite (Opposite (entryAt held width (m .column) (m .row)) (m .edition)) ∷ []
+
 pub record Demand1 : Type 0 where
   pub encode : (samples : List Float) (o : Options) → InNumberOrder (ofEncoded (encodeAnswer samples o)) (EncodeRefuses samples)
   pub decode : (encoded : List ℕ) → InNumberOrder (firstOf (decodeChecks encoded)) (DecodeRefuses encoded)
@@ -118,6 +130,8 @@ pub record Demand1 : Type 0 where
   pub read-dds : (file : List ℕ) → Exactly (ofFound (readAnswer file)) (ReadRefuses file)
   -- the companion of a read tells the same refusal
   pub read-dds-refusal : (file : List ℕ) → firstOf (readChecks file) ≡ ofFound (readAnswer file)
+  -- a station; a clear refuses nothing
+  pub receive : (held : Held) (width height : ℕ) (m : Message) → Exactly (ofReceived (receiveAnswer held width height m)) (ReceiveRefuses held width height m)
   -- a refused call leaves lent memory as it was, a tile call by word too (`outAfter` of the word's options), and a refused view is empty;
   -- `decode-leaves` is for both channels' arrays too
   pub decode-leaves : (q : Refusal) (encoded : List ℕ) (snorm : Bool) (before : List Float) → samplesAfter (Refused q) encoded snorm before ≡ before
@@ -132,3 +146,5 @@ pub record Demand1 : Type 0 where
   pub write-dds-leaves : (q : Refusal) (tile : List ℕ) (width height : ℕ) (snorm : Bool) (before : List ℕ)
       → fileAfter (NotWritten q) tile width height snorm before ≡ before
   pub read-dds-empty : (q : Refusal) (file : List ℕ) → firstOf (readChecks file) ≡ Refused q → bodyOf file ≡ []
+  pub receive-leaves : (q : Refusal) (held : Held) (width : ℕ) (m : Message)
+      → (tileAfter (NotReceived q) (held .tile) width m ≡ held .tile) × (editionsAfter (NotReceived q) (held .editions) width m ≡ held .editions)

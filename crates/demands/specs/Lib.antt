@@ -12,3 +12,4 @@ pub mod WorkedValues
 pub mod Literals
 pub mod RoundTrip
 pub mod DdsFiles
+pub mod Station

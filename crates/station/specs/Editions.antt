@@ -13,10 +13,16 @@ pub record Message : Type 0 where
   pub edition : ℕ
   pub block : List ℕ
 
+abbrev pub message : ℕ → ℕ → ℕ → List ℕ → Message
+message column row edition block = record { column = column; row = row; edition = edition; block = block }
+
 -- the tile, and beside it the record of editions: one entry for each block, in the tile's order
 pub record Held : Type 0 where
   pub tile : List ℕ
   pub editions : List ℕ
+
+abbrev pub holding : List ℕ → List ℕ → Held
+holding tile editions = record { tile = tile; editions = editions }
 
 -- an entry takes one place of the record, as a block takes eight of the tile
 abbrev pub entrySize : ℕ

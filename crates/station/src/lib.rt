@@ -4,7 +4,7 @@ ghost use mathlib.Core.Path.{_≡_};
 ghost use Prim.Native.Nat.{_+_, _*_, _<_, _≤_};
 ghost use lib.ListN.{length, set};
 ghost use Rattle.place.specs.Place.{longestSide, bc4Size};
-ghost use Rattle.station.specs.Editions.{Message, Held, entryOf};
+ghost use Rattle.station.specs.Editions.{message, holding, entryOf};
 ghost use Rattle.station.specs.Receiving.{receiveAnswer, bytesPut, tileAfter, editionsAfter, cleared};
 
 mod editions;
@@ -37,9 +37,9 @@ pub fn receive(
     edition: u16,
     block: &[u8],
 ) -> Received
-    ensures answer { λ r. ⌜ r ≡ receiveAnswer (record { tile = now (tile .entry); editions = now (editions .entry) }) width height (record { column = column; row = row; edition = edition; block = now (block .entry) }) ⌝ }
-    ensures tile { λ r. ⌜ now (tile .exit) ≡ tileAfter r (now (tile .entry)) width (record { column = column; row = row; edition = edition; block = now (block .entry) }) ⌝ }
-    ensures editions { λ r. ⌜ now (editions .exit) ≡ editionsAfter r (now (editions .entry)) width (record { column = column; row = row; edition = edition; block = now (block .entry) }) ⌝ }
+    ensures answer { λ r. ⌜ r ≡ receiveAnswer (holding (now (tile .entry)) (now (editions .entry))) width height (message column row edition (now (block .entry))) ⌝ }
+    ensures tile { λ r. ⌜ now (tile .exit) ≡ tileAfter r (now (tile .entry)) width (message column row edition (now (block .entry))) ⌝ }
+    ensures editions { λ r. ⌜ now (editions .exit) ≡ editionsAfter r (now (editions .entry)) width (message column row edition (now (block .entry))) ⌝ }
 {
     let checked = shape::message(
         tile.len(),

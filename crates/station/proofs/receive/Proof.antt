@@ -9,6 +9,7 @@ use Rattle.place.specs.Place.{longestSide, bc4Size}
 use Rattle.refusal.specs.declared.Checked.the-variants.{Passed}
 use Rattle.refusal.specs.Refusals.{firstOf}
 use Rattle.refusal.proofs.Firsts.{refused-before, passed-before}
+use Rattle.station.specs.Editions.{message, holding}
 use Rattle.station.specs.Receiving.{shapeChecks, receiveAnswer}
 use Rattle.station.proofs.Room.{Room, room as message-room}
 use Rattle.station.proofs.receive.Statement.{statement}
@@ -62,8 +63,7 @@ answer-requires c κs =
     (simp (length-take, length-drop) (omega (arith, r .bytes, at .block-at .ensures)), r .eight)
 
 said : (c : tie.After-answer) → let a = c .before .before .before .before .before .before .before .before .before .before .before .before .args in
-    c .answer .result ≡ receiveAnswer (record { tile = now (a .tile); editions = now (a .editions) }) (a .width) (a .height)
-    (record { column = a .column; row = a .row; edition = a .edition; block = now (a .block) })
+    c .answer .result ≡ receiveAnswer (holding (now (a .tile)) (now (a .editions))) (a .width) (a .height) (message (a .column) (a .row) (a .edition) (now (a .block)))
 said c =
     let at = c .before .before .before .before .before in
     let entry = c .before .before .before .before in
