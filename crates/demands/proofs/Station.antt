@@ -2,19 +2,19 @@
 use mathlib.Core.Path.{_≡_, refl, ap, _∙_}
 use mathlib.Core.Bool.{Bool, true, false}
 use mathlib.Core.List.{List}
-use Prim.Native.Nat.{ℕ, _+_, _-_, _%_, _<_, _≤_}
+use Prim.Native.Nat.{ℕ, _+_, _-_, _%_, _<_}
 use native.Mathlib.Omega.{arith}
-use lib.ListN.{length, take, drop, length-take, length-drop}
-use Rattle.place.specs.Place.{bc4Size, encodedLength, blockAt}
+use lib.ListN.{length, length-take, length-drop}
+use Rattle.place.specs.Place.{bc4Size}
 use Rattle.place.proofs.Places.{block-within}
-use Rattle.station.specs.Editions.{Message, Held, entryAt, bytesAt, wrap, editionIn, ahead, alike}
+use Rattle.station.specs.Editions.{Message, Held, entryAt, bytesAt, editionIn, ahead, alike}
 use Rattle.station.specs.Receiving.{receiveAnswer, changes}
-use Rattle.station.specs.Histories.{Among, Newest, Sized}
-use Rattle.station.proofs.Messages.{elsewhere, here, unchanged, atPlace, empty-takes, equal-repeats, other-reused, newer-replaces, half-opposite, older-stays, alike-same, alike-equal, fitting}
+use Rattle.station.proofs.Cases.{atPlace, empty-takes, equal-repeats, other-reused, newer-replaces, half-opposite, older-stays, alike-same, alike-equal}
+use Rattle.station.proofs.Messages.{elsewhere, here, unchanged, fitting}
 use Rattle.station.proofs.Converging.{held-newest, some-newest, as-before, never-refused, any-order}
 use Rattle.station.proofs.Clears.{last-clear, history-sized}
 use Rattle.station.proofs.Forgotten.{forgotten, same-answer}
-use Rattle.demands.specs.Station.{Fitting, BySteps, OneMessage, Converging, Station}
+use Rattle.demands.specs.Station.{Fitting, BySteps, OneMessage, Station}
 
 module _ (width height : ℕ) (held : Held) (m : Message) where
   abbrev entry : ℕ

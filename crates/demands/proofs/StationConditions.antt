@@ -1,7 +1,7 @@
 -- Each check of a message says what the table's condition says. That bytes are other bytes can be said once both are eight.
 use mathlib.Core.Path.{_≡_, refl, sym, ap, _∙_}
-use mathlib.Core.Bool.{Bool, true, false, not, cond, _&&_}
-use mathlib.Core.List.{List, [], _∷_}
+use mathlib.Core.Bool.{Bool, true, false, not, cond}
+use mathlib.Core.List.{List}
 use Prim.Native.Nat.{ℕ, _+_, _-_, _*_, _/_, _%_, _<_}
 use native.Mathlib.Omega.{arith}
 use lib.Dec.{eqb, ltb}
@@ -11,16 +11,14 @@ use Rattle.place.specs.Place.{bc4Size, encodedLength}
 use Rattle.refusal.specs.declared.Checked.the-variants.{Passed}
 use Rattle.refusal.specs.Refusals.{firstOf}
 use Rattle.refusal.proofs.Firsts.{refusal-of}
-use Rattle.station.specs.declared.Received.{Received}
 use Rattle.station.specs.declared.Received.the-variants.{Taken, Repeated, Replaced, Old, Refused as NotReceived}
 use Rattle.station.specs.Editions.{Message, Held, entrySize, entryAt, bytesAt, isEmpty, editionIn, ahead, alike, halfway}
-use Rattle.station.specs.Receiving.{fitChecks, heldChecks, receiveChecks, becomes, receiveAnswer, ofReceived}
+use Rattle.station.specs.Receiving.{heldChecks, receiveChecks, becomes, receiveAnswer, ofReceived}
 use Rattle.station.proofs.Room.{room}
-use Rattle.station.proofs.Messages.{alike-same, alike-equal}
+use Rattle.station.proofs.Cases.{alike-same, alike-equal}
 use Rattle.demands.specs.Exactly.{Iff, Exactly}
-use Rattle.demands.specs.Conditions.{Reused, Opposite}
 use Rattle.demands.specs.Demand1.{ReceiveRefuses}
-use Rattle.demands.proofs.Refusing.{Alike, end, then, together, exactly-then, exactly}
+use Rattle.demands.proofs.Refusing.{end, then, together, exactly-then, exactly}
 use Rattle.demands.proofs.Conditions.{when-same, unequal-iff, place-iff, and-iff}
 use Rattle.demands.proofs.Sizes.{bytes-alike}
 

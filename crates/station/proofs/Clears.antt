@@ -1,14 +1,10 @@
 -- A history with clears: it is the messages after the last clear, and what was before it shows only where none of them came.
-use mathlib.Core.Path.{_≡_, refl, sym, ap, _∙_}
-use mathlib.Core.Bool.{Bool, true, false}
+use mathlib.Core.Path.{_≡_, refl, _∙_}
 use mathlib.Core.List.{List, [], _∷_, _++_}
-use mathlib.Core.Logic.{_⊎_, ⊎-elim}
-use Prim.Native.Nat.{ℕ, _<_}
+use Prim.Native.Nat.{ℕ}
 use native.Mathlib.Omega.{arith}
 use lib.ListN.{length, length-replicate}
-use Rattle.place.specs.Place.{along}
 use Rattle.station.specs.Editions.{Message, Held}
-use Rattle.station.specs.Receiving.{cleared}
 use Rattle.station.specs.Histories.{received, startedAnew, arrived, Event, afterEvent, history, arrivals, Sized}
 use Rattle.station.specs.Histories.Event.{Arrives, Clears}
 use Rattle.station.proofs.Messages.{still-sized}

@@ -1,15 +1,16 @@
 -- What holds after any messages of an orderly list, from a cleared record.
 use mathlib.Core.Path.{_≡_, refl, sym, ap, _∙_}
-use mathlib.Core.List.{List, [], _∷_}
-use mathlib.Core.Logic.{_⊎_, inl, inr, ⊎-elim}
-use Prim.Native.Nat.{ℕ, _+_, _%_, _<_, _≤_}
+use mathlib.Core.List.{List}
+use mathlib.Core.Logic.{_⊎_, ⊎-elim}
+use Prim.Native.Nat.{ℕ, _+_, _%_, _<_}
 use native.Mathlib.Omega.{arith}
 use Rattle.place.specs.Place.{along}
 use Rattle.refusal.specs.declared.Checked.the-variants.{Passed}
 use Rattle.station.specs.Editions.{Message, Held, entryAt, bytesAt, wrap, entryOf}
 use Rattle.station.specs.Receiving.{receiveAnswer, ofReceived}
 use Rattle.station.specs.Histories.{startedAnew, arrived, Among, SamePlace, Orderly, Newest, Holds, Sized}
-use Rattle.station.proofs.Arrivals.{For, Untouched, Filled, Kept, own, kept}
+use Rattle.station.proofs.OneMore.{For, Kept, own}
+use Rattle.station.proofs.Arrivals.{kept}
 use Rattle.station.proofs.Whole.{same-tile, same-record, same-held}
 
 module _ (width height : ℕ) (base : ℕ → ℕ → ℕ) (age : Message → ℕ) (sent : List Message) (orderly : Orderly width height base age sent) (start : Held) (sized : Sized width height start) where

@@ -1,7 +1,9 @@
 pub mod Steps
 pub mod Standing
 pub mod Room
+pub mod Cases
 pub mod Messages
+pub mod OneMore
 pub mod Arrivals
 pub mod Whole
 pub mod Converging

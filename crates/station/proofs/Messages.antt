@@ -1,29 +1,28 @@
--- One message: it leaves the sizes as they are, changes no other place, and of its own place does what the document's four cases say.
-use mathlib.Core.Path.{_≡_, refl, sym, ap, _∙_}
-use mathlib.Core.Bool.{Bool, true, false, not, cond, _&&_}
-use mathlib.Core.List.{List, [], _∷_, _++_}
-use mathlib.Core.Logic.{_⊎_, inl, inr, ⊎-elim, dite}
-use Prim.Native.Nat.{ℕ, zero, suc, _+_, _<_, _≤_}
+-- One message: it leaves the sizes as they are, changes no other place, and stands at its own where it changes something. Where it fits, its place answers it.
+use mathlib.Core.Path.{_≡_, refl, ap, _∙_}
+use mathlib.Core.Bool.{Bool, true, false, not, cond}
+use mathlib.Core.List.{[], _∷_}
+use mathlib.Core.Logic.{dite}
+use Prim.Native.Nat.{ℕ, _+_, _<_}
 use native.Mathlib.Decide.{decLt}
 use native.Mathlib.Omega.{arith}
-use lib.Dec.{eqb}
-use lib.ListN.{length, getD, set, length-set}
-use lib.Seq.{getD-set-same, getD-set-other, ext-getD}
-use borrow.Author.Tests.{eq-eqb, eqb-true, ne-eqb, lt-ltb, le-ltb, lt-leb}
-use Rattle.place.specs.Place.{along, bc4Size, encodedLength, noBlock, blockAt}
+use lib.ListN.{length, set, length-set}
+use lib.Seq.{getD-set-same, getD-set-other}
+use borrow.Author.Tests.{eq-eqb, lt-leb}
+use Rattle.place.specs.Place.{along, bc4Size, encodedLength, blockAt}
 use Rattle.place.proofs.Places.{block-apart}
-use Rattle.refusal.specs.declared.Refusal.the-variants.{EditionReused, EditionOpposite}
 use Rattle.refusal.specs.declared.Checked.{Checked}
 use Rattle.refusal.specs.declared.Checked.the-variants.{Passed, Refused}
 use Rattle.refusal.specs.Refusals.{firstOf, answered, lengthCheck, placeCheck, sizeChecks, bytesChecks}
 use Rattle.refusal.proofs.Firsts.{both-passed, passed-before, clear-passed}
 use Rattle.refusal.proofs.Sizes.{good-passes}
 use Rattle.station.specs.declared.Received.{Received}
-use Rattle.station.specs.declared.Received.the-variants.{Taken, Repeated, Replaced, Old, Refused as NotReceived}
-use Rattle.station.specs.Editions.{Message, Held, entrySize, entryAt, bytesAt, wrap, halfway, isEmpty, editionIn, entryOf, ahead, alike}
-use Rattle.station.specs.Receiving.{editionChecks, fitChecks, heldChecks, receiveChecks, becomes, receiveAnswer, changes, bytesPut, tileAfter, editionsAfter}
+use Rattle.station.specs.declared.Received.the-variants.{Refused as NotReceived}
+use Rattle.station.specs.Editions.{Message, Held, entrySize, entryAt, bytesAt, entryOf}
+use Rattle.station.specs.Receiving.{fitChecks, heldChecks, receiveChecks, becomes, receiveAnswer, changes, bytesPut, tileAfter, editionsAfter}
 use Rattle.station.specs.Histories.{received, Sized}
 use Rattle.station.proofs.Room.{Room, room}
+use Rattle.station.proofs.Cases.{atPlace}
 use Rattle.station.proofs.Standing.{put-length, put-here, put-before, put-after}
 
 -- ---- a message that changes something was not refused, so that its place is there
@@ -93,62 +92,6 @@ module _ (held : Held) (width height : ℕ) (m : Message) where
   -- where it does not, all is as before
   pub unchanged : changes answer ≡ false → received width height held m ≡ held
   unchanged e = rw e
-
--- ---- the document's four cases, and its two refusals, at a place
-abbrev pub atPlace : ℕ → ℕ → List ℕ → List ℕ → Received
-atPlace entry edition bytes block = answered NotReceived (becomes entry edition) (firstOf (editionChecks entry edition bytes block))
-
-module _ (entry edition : ℕ) (bytes block : List ℕ) where
-  pub empty-takes : entry ≡ 0 → atPlace entry edition bytes block ≡ Taken
-  unfolding firstOf
-  empty-takes e = rw (eq-eqb entry 0 e)
-
-  module _ (full : entry ≡ 0 → ⊥) where
-    pub equal-repeats : ahead edition (editionIn entry) ≡ 0 → alike bytes block bc4Size ≡ true → atPlace entry edition bytes block ≡ Repeated
-    unfolding firstOf
-    equal-repeats e same = rw (ne-eqb entry 0 full, e, same)
-
-    pub other-reused : ahead edition (editionIn entry) ≡ 0 → alike bytes block bc4Size ≡ false → atPlace entry edition bytes block ≡ NotReceived EditionReused
-    unfolding firstOf
-    other-reused e same = rw (ne-eqb entry 0 full, e, same)
-
-    pub newer-replaces : 0 < ahead edition (editionIn entry) → ahead edition (editionIn entry) < halfway → atPlace entry edition bytes block ≡ Replaced
-    unfolding firstOf
-    newer-replaces some less =
-        let no : ahead edition (editionIn entry) ≡ 0 → ⊥ = omega arith in
-        let less-than : ahead edition (editionIn entry) ≡ halfway → ⊥ = omega arith in
-        rw (ne-eqb entry 0 full, ne-eqb _ 0 no, ne-eqb _ halfway less-than, lt-ltb _ halfway less)
-
-    pub half-opposite : ahead edition (editionIn entry) ≡ halfway → atPlace entry edition bytes block ≡ NotReceived EditionOpposite
-    unfolding firstOf
-    half-opposite e = rw (ne-eqb entry 0 full, e)
-
-    pub older-stays : halfway < ahead edition (editionIn entry) → atPlace entry edition bytes block ≡ Old
-    unfolding firstOf
-    older-stays more =
-        let no : ahead edition (editionIn entry) ≡ 0 → ⊥ = omega arith in
-        let more-than : ahead edition (editionIn entry) ≡ halfway → ⊥ = omega arith in
-        rw (ne-eqb entry 0 full, ne-eqb _ 0 no, ne-eqb _ halfway more-than, le-ltb (ahead edition (editionIn entry)) halfway (omega arith))
-
--- ---- the same bytes
-pub alike-same : (bytes : List ℕ) (n : ℕ) → alike bytes bytes n ≡ true
-unfolding alike
-alike-same bytes zero = refl
-alike-same bytes (suc n) = rw (alike-same bytes n, eq-eqb (getD bytes n 0) (getD bytes n 0) refl)
-
-both-true : (a b : Bool) → a && b ≡ true → (a ≡ true) × (b ≡ true)
-both-true true b e = (refl, e)
-both-true false b e = absurd (let z : _≡_ {A = ℕ} 0 1 = cc in omega arith)
-
-alike-each : (xs ys : List ℕ) (n : ℕ) → alike xs ys n ≡ true → (i : ℕ) → i < n → getD xs i 0 ≡ getD ys i 0
-unfolding alike
-alike-each xs ys zero e i h = absurd (omega arith)
-alike-each xs ys (suc n) e i h =
-    let both = both-true (alike xs ys n) _ e in
-    dite (decLt i n) (λ l. alike-each xs ys n (both .0) i l) (λ l. let last : i ≡ n = omega arith in rw last (eqb-true _ _ (both .1)))
-
-pub alike-equal : (xs ys : List ℕ) → length xs ≡ bc4Size → length ys ≡ bc4Size → alike xs ys bc4Size ≡ true → xs ≡ ys
-alike-equal xs ys p q e = ext-getD 0 xs ys (p ∙ sym q) (λ i h. alike-each xs ys bc4Size e i (omega arith))
 
 -- ---- a message that fits a tile and a record of one size is answered by its place
 module _ (held : Held) (width height : ℕ) (m : Message) (sized : Sized width height held) (across : m .column < along width) (down : m .row < along height) (eight : length (m .block) ≡ bc4Size) where

@@ -1,6 +1,5 @@
 -- Editions that lie within 32,767 steps of one: their difference tells which is newer.
 use mathlib.Core.Path.{_≡_}
-use mathlib.Core.Bool.{true, false, not, cond}
 use Prim.Native.Nat.{ℕ, _+_, _-_, _%_, _<_, _≤_}
 use native.Mathlib.Omega.{arith}
 use Rattle.station.specs.Editions.{wrap, halfway, editionIn, entryOf, ahead}
