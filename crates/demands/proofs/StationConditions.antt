@@ -1,6 +1,6 @@
 -- Each check of a message says what the table's condition says. That bytes are other bytes can be said once both are eight.
 use mathlib.Core.Path.{_≡_, refl, sym, ap, _∙_}
-use mathlib.Core.Bool.{Bool, true, false, not, cond}
+use mathlib.Core.Bool.{Bool, true, false, not, cond, _&&_}
 use mathlib.Core.List.{List}
 use Prim.Native.Nat.{ℕ, _+_, _-_, _*_, _/_, _%_, _<_}
 use native.Mathlib.Omega.{arith}
@@ -17,6 +17,7 @@ use Rattle.station.specs.Receiving.{heldChecks, receiveChecks, becomes, receive
 use Rattle.station.proofs.Room.{room}
 use Rattle.station.proofs.Cases.{alike-same, alike-equal}
 use Rattle.demands.specs.Exactly.{Iff, Exactly}
+use Rattle.demands.specs.Conditions.{Reused, Opposite}
 use Rattle.demands.specs.Demand1.{ReceiveRefuses}
 use Rattle.demands.proofs.Refusing.{end, then, together, exactly-then, exactly}
 use Rattle.demands.proofs.Conditions.{when-same, unequal-iff, place-iff, and-iff}
@@ -34,8 +35,9 @@ full-iff n = (λ e. let some = eqb-false n 0 (not-true (eqb n 0) e) in omega ari
 same-iff : (n edition : ℕ) → Iff (eqb (ahead edition (editionIn n)) 0 ≡ true) ((n - 1) % 65536 ≡ edition % 65536)
 same-iff n edition = (λ e. let z = eqb-true (ahead edition (editionIn n)) 0 e in omega arith, λ e. eq-eqb (ahead edition (editionIn n)) 0 (omega arith))
 
-half-iff : (n edition : ℕ) → Iff (eqb (ahead edition (editionIn n)) halfway ≡ true) ((n - 1 + 32768) % 65536 ≡ edition % 65536)
-half-iff n edition = (λ e. let z = eqb-true (ahead edition (editionIn n)) halfway e in omega arith, λ e. eq-eqb (ahead edition (editionIn n)) halfway (omega arith))
+opposite-iff : (n edition : ℕ) → Iff (not (isEmpty n) && eqb (ahead edition (editionIn n)) halfway ≡ true) (Opposite n edition)
+opposite-iff n edition =
+    and-iff _ _ (full-iff n) (λ e. let z = eqb-true (ahead edition (editionIn n)) halfway e in omega arith, λ e. eq-eqb (ahead edition (editionIn n)) halfway (omega arith))
 
 other-iff : (bytes block : List ℕ) → length bytes ≡ bc4Size → length block ≡ bc4Size → Iff (not (alike bytes block bc4Size) ≡ true) (bytes ≡ block → ⊥)
 other-iff bytes block p q = go (alike bytes block bc4Size) refl
@@ -43,6 +45,12 @@ other-iff bytes block p q = go (alike bytes block bc4Size) refl
     go : (t : Bool) → alike bytes block bc4Size ≡ t → Iff (not t ≡ true) (bytes ≡ block → ⊥)
     go true e = (λ z. absurd (let w : _≡_ {A = ℕ} 0 1 = cc in omega arith), λ other. absurd (other (alike-equal bytes block p q e)))
     go false e = (λ z same. let w : true ≡ false = sym (rw same (alike-same block bc4Size)) ∙ e in absurd (let v : _≡_ {A = ℕ} 0 1 = cc in omega arith), λ other. refl)
+
+reused-iff : (n edition : ℕ) (bytes block : List ℕ) → length bytes ≡ bc4Size → length block ≡ bc4Size
+    → Iff (not (isEmpty n) && (eqb (ahead edition (editionIn n)) 0 && not (alike bytes block bc4Size)) ≡ true) (Reused n edition bytes block)
+reused-iff n edition bytes block p q =
+    let both = and-iff _ _ (full-iff n) (and-iff _ _ (same-iff n edition) (other-iff bytes block p q)) in
+    (λ e. let x = both .0 e in (x .0, x .1 .0, x .1 .1), λ x. both .1 (x .0, (x .1, x .2)))
 
 -- what becomes of a message is no refusal
 becomes-passed : (entry edition : ℕ) → ofReceived (becomes entry edition) ≡ Passed
@@ -63,10 +71,7 @@ receive-exactly held width height m =
     (then (when-same (unequal-iff (length (m .block)) 8)) (then (when-same (place-iff width height (m .column) (m .row))) end))))
     (λ passed.
     let r = room _ _ _ _ _ _ _ passed in
-    let bytes = bytesAt held width (m .column) (m .row) in
-    let eight : length bytes ≡ bc4Size = simp (length-take, length-drop) (omega (arith, r .bytes)) in
-    let entry = entryAt held width (m .column) (m .row) in
-    let reused = and-iff _ _ (full-iff entry) (and-iff _ _ (same-iff entry (m .edition)) (other-iff bytes (m .block) eight (r .eight))) in
+    let eight : length (bytesAt held width (m .column) (m .row)) ≡ bc4Size = simp (length-take, length-drop) (omega (arith, r .bytes)) in
     exactly
-    (then (when-same (λ e. let x = reused .0 e in (x .0, x .1 .0, x .1 .1), λ x. reused .1 (x .0, (x .1, x .2))))
-    (then (when-same (and-iff _ _ (full-iff entry) (half-iff entry (m .edition)))) end))))
+    (then (when-same (reused-iff (entryAt held width (m .column) (m .row)) (m .edition) (bytesAt held width (m .column) (m .row)) (m .block) eight (r .eight)))
+    (then (when-same (opposite-iff (entryAt held width (m .column) (m .row)) (m .edition))) end))))
