@@ -1,5 +1,5 @@
 /* BC4 blocks: sixteen samples in eight bytes, and DDS files of them. The calls of the static library `exports` (crates/exports), for C99 and C++ on x86-64;
-   those on two channels are in bc5.h.
+   those on two channels are in bc5.h, those of the receiving side in station.h.
 
    A call answers 0, or the number of a refusal: of all that apply, the first in the order that its comment lists them. A refused call changes nothing
    that it was lent, but for *detail, where the refusal has something to say. No call reads or writes outside what it is lent, and each ends for every input. That, and every value written, is proved, as far as the caller keeps its part. No call allocates, keeps a pointer or has
@@ -20,13 +20,14 @@
 #include <stdint.h>
 
 /* Major, minor and patch number of this header, a byte each. */
-#define BC4_VERSION 0x030100u
+#define BC4_VERSION 0x030200u
 
 /* ---- refusals */
 #define BC4_OK 0u                      /* none */
 #define BC4_SIDE_IS_ZERO 1u            /* width or height is 0; detail: the side, here and in 9 and 10 */
 #define BC4_SAMPLE_COUNT 2u            /* the sample count is not 16, or not width * height; detail of a call of bc5.h: the channel */
-#define BC4_ENCODED_LENGTH 3u          /* the encoded length is not 8, or not width * height / 2; in a call of bc5.h twice that */
+#define BC4_ENCODED_LENGTH 3u          /* the encoded length is not 8, or not width * height / 2, in a call of bc5.h twice that;
+                                          or a record of editions has not one entry for each block, width * height / 16 */
 #define BC4_OUTPUT_LENGTH 4u           /* the output is shorter than width * height / 2, in a call of bc5.h than twice that, for a file than 128 + width * height / 2 */
 #define BC4_DITHERED_RESEND 5u         /* a resend with BC4_DITHER */
 #define BC4_NO_SUCH_BLOCK 6u           /* the column is not below width / 4, or the row not below height / 4 */
@@ -39,6 +40,8 @@
 #define BC4_DDS_FORMAT 13u             /* the pixels are not BC4 by the names BC4U, BC4S, or DX10 with format 80 or 81 */
 #define BC4_DDS_PICTURES 14u           /* the file says that it holds more than one flat picture, or with DX10 none */
 #define BC4_DDS_BODY 15u               /* the bytes after the headers are not exactly width * height / 2 */
+#define BC4_EDITION_REUSED 16u         /* the place holds a message's edition with other bytes */
+#define BC4_EDITION_OPPOSITE 17u       /* a message's edition is exactly 32,768 from the one that its place holds: as far ahead as behind */
 
 /* ---- sides, for `what` below with 1, 9 and 10: the one that is so, the width where both are, with its offset in a DDS file */
 #define BC4_WIDTH 1u  /* 16 */

@@ -81,14 +81,7 @@ static uint32_t view(size_t column, size_t row) {
   return bc5_block_view(at(&encoded), encoded.length, width, height, column, row, at(&offset), at(&detail));
 }
 
-/* ---- samples, options and bytes: pseudo-random, the same in each run */
-static uint32_t random_bits(void) {
-  static uint32_t state = 2463534242u;
-  state ^= state << 13;
-  state ^= state >> 17;
-  return state ^= state << 5;
-}
-
+/* ---- samples, options and bytes */
 static float random_sample(void) { return (float)(random_bits() >> 8) / 16777216.0f; }
 
 static void set_sample(lent *channel, size_t i, float x) { put(channel, i * sizeof x, &x, sizeof x); }

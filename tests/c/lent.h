@@ -1,4 +1,4 @@
-/* What the C tests of the library share: checks that are counted, what a call is lent, sizes, and how far down the stack a call writes. */
+/* What the C tests of the library share: checks that are counted, what a call is lent, numbers by chance, sizes, and how far down the stack a call writes. */
 #ifndef LENT_H
 #define LENT_H
 
@@ -66,7 +66,8 @@ static bool as_before(lent *const *all, size_t count) {
   return true;
 }
 
-static size_t taken_size(lent *l) {
+/* `inline` are those that not every test calls: a compiler says nothing of them where none does. */
+static inline size_t taken_size(lent *l) {
   size_t n;
   take(l, &n, sizeof n);
   return n;
@@ -87,6 +88,14 @@ static bool told(size_t what, size_t index, size_t row, size_t column) {
 static bool refused(uint32_t answer, uint32_t number, size_t what) {
   const bool told_what = what == 0 || told(what, 0, 0, 0);
   return answer == number && told_what && untouched();
+}
+
+/* ---- numbers, pseudo-random, the same in each run */
+static inline uint32_t random_bits(void) {
+  static uint32_t state = 2463534242u;
+  state ^= state << 13;
+  state ^= state >> 17;
+  return state ^= state << 5;
 }
 
 /* ---- sizes */

@@ -1,4 +1,5 @@
-//! Safe calls of the proved BC4 block codec: sixteen samples in eight bytes, and DDS files of such blocks. [`bc5`] has the calls on two channels.
+//! Safe calls of the proved BC4 block codec: sixteen samples in eight bytes, and DDS files of such blocks. [`bc5`] has the calls on two channels,
+//! [`station`] those of the receiving side.
 //!
 //! The codec is the static library that `rt staticlib exports` writes, for x86-64 Linux. A build has to be told where it stands, and nothing else:
 //!
@@ -33,6 +34,7 @@
 use core::fmt;
 
 pub mod bc5;
+pub mod station;
 
 #[link(name = "exports", kind = "static")]
 extern "C" {
@@ -294,7 +296,8 @@ pub enum Refusal {
     SampleCount,
     /// 2: the same of one of two channels.
     ChannelSampleCount(Channel),
-    /// 3: the encoded length is not 8, or not width * height / 2; for two channels, twice that.
+    /// 3: the encoded length is not 8, or not width * height / 2; for two channels, twice that. Or a record of editions has not one entry for each block,
+    /// width * height / 16.
     EncodedLength,
     /// 4: the output is shorter than width * height / 2, for two channels than twice that, for a file than 128 + width * height / 2.
     OutputLength,
@@ -331,6 +334,10 @@ pub enum Refusal {
     DdsHeader(Field),
     /// 15: the bytes after the headers of a DDS file are not exactly width * height / 2.
     DdsBody,
+    /// 16: the place holds a message's edition with other bytes.
+    EditionReused,
+    /// 17: a message's edition is exactly 32,768 from the one that its place holds: as far ahead as behind.
+    EditionOpposite,
 }
 
 impl Refusal {
@@ -364,6 +371,8 @@ impl Refusal {
                 Field::MipCount | Field::Depth | Field::CubeFaces | Field::ArraySize => 14,
             },
             Refusal::DdsBody => 15,
+            Refusal::EditionReused => 16,
+            Refusal::EditionOpposite => 17,
         }
     }
 }
@@ -391,7 +400,7 @@ impl fmt::Display for Refusal {
                 write!(f, "the sample count of {channel} is not 16, or not width * height")
             }
             Refusal::EncodedLength => f.write_str(
-                "the encoded length is not 8, or not width * height / 2; for two channels, twice that",
+                "the encoded length is not 8, or not width * height / 2; for two channels, twice that; or the record of editions has not width * height / 16 entries",
             ),
             Refusal::OutputLength => f.write_str(
                 "the output is shorter than width * height / 2, for two channels than twice that, for a file than 128 + width * height / 2",
@@ -421,6 +430,10 @@ impl fmt::Display for Refusal {
             Refusal::DdsBody => {
                 f.write_str("the bytes after the DDS headers are not exactly width * height / 2")
             }
+            Refusal::EditionReused => f.write_str("the place holds this edition with other bytes"),
+            Refusal::EditionOpposite => {
+                f.write_str("the edition is 32768 from the one that the place holds")
+            }
         }
     }
 }
@@ -442,6 +455,8 @@ fn checked(number: u32, detail: Detail) -> Result<(), Refusal> {
         8 => Refusal::WordMalformed,
         11..=14 => Refusal::DdsHeader(Field::said(detail.what)),
         15 => Refusal::DdsBody,
+        16 => Refusal::EditionReused,
+        17 => Refusal::EditionOpposite,
         _ => unreachable!("the library has no other number"),
     })
 }
@@ -481,7 +496,7 @@ fn checked_size(number: u32, detail: Detail, width: usize, height: usize) -> Res
 /// Major, minor and patch number of the library, a byte each.
 ///
 /// ```
-/// assert_eq!(bc4::version(), 0x030100);
+/// assert_eq!(bc4::version(), 0x030200);
 /// ```
 pub fn version() -> u32 {
     // SAFETY: it takes nothing.

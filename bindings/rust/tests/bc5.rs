@@ -227,7 +227,7 @@ fn encoded_lengths_are_doubled() {
             bc5::block_view(&bytes, 4, 4, 1, 1).err(),
         ];
         for answer in answers {
-            let text = "the encoded length is not 8, or not width * height / 2; for two channels, twice that";
+            let text = "the encoded length is not 8, or not width * height / 2; for two channels, twice that; or the record of editions has not width * height / 16 entries";
             assert_refused(answer, Refusal::EncodedLength, 3, text);
         }
     }

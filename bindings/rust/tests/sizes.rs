@@ -1,4 +1,5 @@
 //! The calls with a size: each refusal of one, and of a NaN in a tile, has its name, number and text and changes nothing.
+use bc4::station::{receive, Message};
 use bc4::Refusal::{SampleIsNan, SideIsZero, SideNotMultipleOf4, SideTooLarge, TileSampleIsNan};
 use bc4::Side::{Height, Width};
 use bc4::{
@@ -56,7 +57,7 @@ fn try_sizes<T>(max: usize, mut call: impl FnMut(usize, usize) -> Result<T, Refu
 #[test]
 fn every_call_says_first_what_is_wrong_with_the_size() {
     let (options, max) = (Options::default(), usize::MAX);
-    let mut out = [7; 144];
+    let (mut out, mut editions) = ([7; 144], [7; 3]);
     try_sizes(max, |width, height| {
         encode_tile(&[f32::NAN; 32], width, height, options, &mut out)
     });
@@ -66,7 +67,16 @@ fn every_call_says_first_what_is_wrong_with_the_size() {
     try_sizes(max, |width, height| {
         block_view(&[1; 9], width, height, max, max)
     });
-    assert_eq!(out, [7; 144]);
+    let message = Message {
+        column: max,
+        row: max,
+        edition: 6,
+        block: &[1; 9],
+    };
+    try_sizes(max, |width, height| {
+        receive(&mut out, &mut editions, width, height, message)
+    });
+    assert_eq!((out, editions), ([7; 144], [7; 3]));
 }
 
 #[test]

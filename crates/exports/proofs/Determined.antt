@@ -35,6 +35,10 @@ use Rattle.exports.proofs.bc4_write_dds.Kinds as write-dds-kinds
 use Rattle.exports.proofs.bc4_write_dds.Reads as write-dds
 use Rattle.exports.proofs.bc4_read_dds.Kinds as read-dds-kinds
 use Rattle.exports.proofs.bc4_read_dds.Reads as read-dds
+use Rattle.exports.proofs.messages.bc4_receive.Kinds as receive-kinds
+use Rattle.exports.proofs.messages.bc4_receive.Reads as receive
+use Rattle.exports.proofs.messages.bc4_clear.Kinds as clear-kinds
+use Rattle.exports.proofs.messages.bc4_clear.Reads as clear
 
 pub version-determined : One-answer 0 version-kinds.ps version-kinds.r version.Post
 version-determined κs a x y s t p q = p ∙ sym q
@@ -104,3 +108,12 @@ pair-tile-determined κs a x y s t p q = cc
 pub pair-view-determined : One-outcome 3 pair-view-kinds.ps pair-view-kinds.r pair-view.Post (ℕ × ℕ × List ℕ)
     (λ κs x s. (x, s .1 .1 .1 .1 .1 .0 .now, s .1 .1 .1 .1 .1 .1 .0 .now))
 pair-view-determined κs a x y s t p q = cc
+
+-- ---- the receiving side. Number, every byte of the tile, every entry of the record, outcome and detail
+pub receive-determined : One-outcome 5 receive-kinds.ps receive-kinds.r receive.Post (ℕ × List ℕ × List ℕ × ℕ × List ℕ)
+    (λ κs x s. (x, s .0 .now, s .1 .0 .now, s .1 .1 .1 .1 .1 .1 .1 .1 .0 .now, s .1 .1 .1 .1 .1 .1 .1 .1 .1 .0 .now))
+receive-determined κs a x y s t p q = cc
+
+-- every entry of the record
+pub clear-determined : One-outcome 1 clear-kinds.ps clear-kinds.r clear.Post (List ℕ) (λ κs x s. s .0 .now)
+clear-determined κs a x y s t p q = cc

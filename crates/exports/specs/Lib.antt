@@ -1,3 +1,4 @@
 pub mod Border
 pub mod DdsBorder
 pub mod ChannelsBorder
+pub mod StationBorder

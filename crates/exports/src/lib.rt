@@ -1,5 +1,5 @@
-// The calls of `bc4`, `dds` and `bc5` for C, and for Rust through bindings/rust: include/bc4.h and include/bc5.h say what each does. Each answers the number of the refusal, or 0, and
-// writes its values through references. None asks anything of its arguments: what a pointer and a length must be is the header's to say.
+// The calls of `bc4`, `dds`, `bc5` and `station` for C, and for Rust through bindings/rust: the headers in include/ say what each does. Each that can refuse answers the number of the
+// refusal, or 0, and writes its values through references. None asks anything of its arguments: what a pointer and a length must be is the header's to say.
 ghost use mathlib.Core.Path.{_≡_};
 ghost use mathlib.Core.Bool.{cond};
 ghost use lib.ListN.{length};
@@ -11,6 +11,7 @@ ghost use Rattle.exports.specs.Border.{wordOfNumber, numberIn, detailAft
 ghost use Rattle.exports.specs.DdsBorder.{fileWrittenAfter, widthAfter, heightAfter, snormAfter, startAfter};
 
 mod channels;
+mod messages;
 
 use bc4::Checked;
 use bc4::Encoded;
@@ -22,12 +23,12 @@ use bc4::word::Word;
 use dds::Found;
 use dds::Written;
 
-// Major, minor and patch number, a byte each: 3.1.0.
+// Major, minor and patch number, a byte each: 3.2.0.
 #[no_mangle]
 pub extern "C" fn bc4_version() -> u32
-    ensures { λ r. ⌜ r ≡ 0x030100 ⌝ }
+    ensures { λ r. ⌜ r ≡ 0x030200 ⌝ }
 {
-    0x030100
+    0x030200
 }
 
 fn word_in(options: u32) -> Word
