@@ -4,14 +4,12 @@
    put over what is held. All is pseudo-random from one seed. Exits with 1, and lines that say what is wrong, where the station's way is not as it has to be. */
 #include <stdio.h>
 #include <string.h>
+#include "shoreline.h"
 #include "station.h"
+#include "wetness.h"
 
 /* ---- what is simulated. A tick is the unit of time; "one in" is a chance at each link that a message takes. */
 enum {
-  SIDE = 128, /* samples */
-  SAMPLES = SIDE * SIDE,
-  ACROSS = SIDE / 4, /* places for a block */
-  PLACES = ACROSS * ACROSS,
   TILE = 8 * PLACES, /* bytes */
 
   LINKS = 4, /* drone, three relays, station; acknowledgements take the same four back */
@@ -27,7 +25,6 @@ enum {
   FIRST_EDITION = 65533, /* so that the editions wrap in the run */
   MOST_TRIES = 100,
   MOST_FLYING = 65536,
-  CAP = 4, /* samples: a crossing of the shoreline that is farther away may be another one */
   TABLE = 100, /* ticks from a line of the table to the next */
   DATA = 5, /* and of the data */
 };
@@ -59,66 +56,6 @@ static bc4_detail detail;
 
 static void answered(uint32_t refused, const char *call, size_t place) {
   if (refused != BC4_OK && ++wrongs <= 10) printf("wrong at tick %u, place %zu: %s refuses, %u\n", (unsigned)now, place, call, (unsigned)refused);
-}
-
-/* ---- chance */
-static uint32_t state;
-
-static uint32_t random_bits(void) {
-  state ^= state << 13;
-  state ^= state >> 17;
-  return state ^= state << 5;
-}
-
-/* The first numbers of a small seed are small. */
-static void start_chance(uint32_t seed) {
-  state = seed;
-  for (int i = 0; i < 32; i++) random_bits();
-}
-
-static uint32_t random_below(uint32_t n) { return (random_bits() >> 8) % n; }
-static float random_part(void) { return (float)(random_bits() >> 8) / 16777216.0f; }
-static bool one_in(uint32_t n) { return random_below(n) == 0; }
-
-/* ---- the map */
-static float measured[SAMPLES];
-
-static float clamped(float x, float least, float most) { return x < least ? least : x > most ? most : x; }
-static float blend(float a, float b, float t) { return a + (b - a) * t * t * (3 - 2 * t); }
-
-/* Adds hills and hollows: a random height, up to `high` and down to -`high`, each `apart` samples, and a smooth way from one to the next. */
-static void add_hills(float *ground, size_t apart, float high) {
-  static float heights[SIDE + 1][SIDE + 1];
-  for (size_t y = 0; y <= SIDE / apart; y++)
-    for (size_t x = 0; x <= SIDE / apart; x++) heights[y][x] = high * (2 * random_part() - 1);
-  for (size_t i = 0; i < SAMPLES; i++) {
-    const size_t x = i % SIDE / apart, y = i / SIDE / apart;
-    const float right = (float)(i % SIDE % apart) / (float)apart, down = (float)(i / SIDE % apart) / (float)apart;
-    ground[i] += blend(blend(heights[y][x], heights[y][x + 1], right), blend(heights[y + 1][x], heights[y + 1][x + 1], right), down);
-  }
-}
-
-/* A river from the top to the bottom. Its left bank is steep; on its right lies a plain that is flooded far out, where wetness falls slowly and a small error
-   moves the shoreline most. Reeds and waves make parts of it rough. Lengths are in samples. */
-static void make_map(void) {
-  static float bed[SAMPLES], ground[SAMPLES], reeds[SAMPLES];
-  add_hills(bed, 64, 16);
-  add_hills(ground, 32, 10);
-  add_hills(ground, 16, 4);
-  add_hills(ground, 8, 1);
-  add_hills(reeds, 16, 1);
-  for (size_t i = 0; i < SAMPLES; i++) {
-    const float aside = (float)(i % SIDE) - 32 - bed[i - i % SIDE];
-    const float far = aside < 0 ? -aside : aside * 0.25f;
-    const float smooth = clamped(0.5f + (16 - far - ground[i]) / 16, 0.02f, 0.98f);
-    const float rough = reeds[i] > 0.3f ? 0.1f : 0.01f;
-    measured[i] = clamped(smooth + rough * (2 * random_part() - 1), 0, 1);
-  }
-}
-
-static void samples_of(size_t place, float *samples) {
-  const float *corner = measured + place / ACROSS * 4 * SIDE + place % ACROSS * 4;
-  for (size_t i = 0; i < 16; i++) samples[i] = corner[i / 4 * SIDE + i % 4];
 }
 
 static float error_of(size_t place, const uint8_t *block) {
@@ -362,75 +299,6 @@ static void end_links(void) {
     end_link(m);
   }
 }
-
-/* ---- the shoreline: where, between two samples of a row or a column, wetness crosses one half */
-/* Distances from the measured crossings to the nearest of a picture on the same line. One that vanished is as far away as the next piece of shoreline, and a
-   few of these can make up most of the sum; in the capped one each counts as the cap. It is over all crossings, so that both ways are compared on the same. */
-typedef struct {
-  long count, far, none; /* far: over the cap; none: the picture has no crossing on the line, and there is no distance */
-  double sum, capped, largest;
-} shift;
-
-/* Whether it does between two neighbours, and then after which part of the way from the first to the second. */
-static bool crosses(float a, float b, float *part) {
-  if ((a < 0.5f) == (b < 0.5f)) return false;
-  *part = (0.5f - a) / (b - a);
-  return true;
-}
-
-/* Into at[], where on the line; and how many. */
-static size_t crossings(const float *line, size_t step, float *at) {
-  size_t count = 0;
-  for (size_t k = 0; k + 1 < SIDE; k++) {
-    float part;
-    if (crosses(line[k * step], line[(k + 1) * step], &part)) at[count++] = (float)k + part;
-  }
-  return count;
-}
-
-static void add_distance(shift *s, float nearest) {
-  s->count++;
-  s->sum += nearest;
-  s->capped += clamped(nearest, 0, CAP);
-  if (nearest > CAP) s->far++;
-  if (nearest > s->largest) s->largest = nearest;
-}
-
-static void add_none(shift *s) {
-  s->none++;
-  s->capped += CAP;
-}
-
-static float nearest_of(const float *others, size_t count, float here) {
-  float nearest = SIDE;
-  for (size_t k = 0; k < count; k++) {
-    const float away = here < others[k] ? others[k] - here : here - others[k];
-    if (away < nearest) nearest = away;
-  }
-  return nearest;
-}
-
-static void shift_of_line(const float *of, const float *picture, size_t step, shift *s) {
-  float here[SIDE], others[SIDE];
-  const size_t count = crossings(of, step, here), other_count = crossings(picture, step, others);
-  for (size_t i = 0; i < count; i++) {
-    if (other_count == 0)
-      add_none(s);
-    else
-      add_distance(s, nearest_of(others, other_count, here[i]));
-  }
-}
-
-static shift shift_of(const float *picture) {
-  shift s = {0, 0, 0, 0, 0, 0};
-  for (size_t k = 0; k < SIDE; k++) {
-    shift_of_line(measured + k * SIDE, picture + k * SIDE, 1, &s);
-    shift_of_line(measured + k, picture + k, SIDE, &s);
-  }
-  return s;
-}
-
-static double mean_of(const shift *s) { return s->sum / (double)s->count; }
 
 /* ---- what is printed */
 static bool data;

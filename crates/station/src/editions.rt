@@ -6,7 +6,7 @@ ghost use Rattle.place.specs.Place.{bc4Size};
 ghost use Rattle.refusal.specs.Refusals.{firstOf, answered};
 ghost use Rattle.station.specs.declared.Received.the-variants.{Refused as NotReceived};
 ghost use Rattle.station.specs.Editions.{editionIn, entryOf, ahead as aheadOf, alike as alikeTo};
-ghost use Rattle.station.specs.Receiving.{editionChecks, becomes};
+ghost use Rattle.station.specs.Receiving.{editionChecks, becomes, changes as changesBy};
 use crate::Received;
 use refusal::Refusal;
 
@@ -65,4 +65,17 @@ pub fn answer(entry: u32, edition: u16, held: &[u8], block: &[u8]) -> Received
         return Received::Refused(Refusal::EditionOpposite);
     }
     Received::Old
+}
+
+// Whether what is held changes by a message with this answer.
+pub fn changes(answer: Received) -> bool
+    ensures { λ r. ⌜ r ≡ changesBy answer ⌝ }
+{
+    match answer {
+        Received::Taken => true,
+        Received::Repeated => false,
+        Received::Replaced => true,
+        Received::Old => false,
+        Received::Refused(_) => false,
+    }
 }

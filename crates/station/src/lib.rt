@@ -61,19 +61,10 @@ pub fn receive(
                 &tile[at..at + place::BC4_SIZE],
                 block,
             );
-            match answer {
-                Received::Taken => {
-                    put(tile, editions, at, entry, edition, block);
-                    Received::Taken
-                }
-                Received::Replaced => {
-                    put(tile, editions, at, entry, edition, block);
-                    Received::Replaced
-                }
-                Received::Repeated => Received::Repeated,
-                Received::Old => Received::Old,
-                Received::Refused(q) => Received::Refused(q),
+            if editions::changes(answer) {
+                put(tile, editions, at, entry, edition, block);
             }
+            answer
         }
     }
 }

@@ -80,26 +80,11 @@ place c =
     let r = room (at .before) in
     (r .eight, rw (at .block-at .ensures) (r .bytes), r .small, rw (c .before .before .before .before .block-at2 .ensures) (r .entry))
 
-enum-told-2 : tie.Need-enum-told-2
-enum-told-2 c = search needs
+changes-requires : tie.Need-changes-requires
+changes-requires c κs = search needs
 
 put-requires : tie.Need-put-requires
 put-requires c κs = place (c .before .before .before .before)
-
-enum-told-3 : tie.Need-enum-told-3
-enum-told-3 c = search needs
-
-put-requires-2 : tie.Need-put-requires-2
-put-requires-2 c κs = place (c .before .before .before .before)
-
-enum-told-4 : tie.Need-enum-told-4
-enum-told-4 c = search needs
-
-enum-told-5 : tie.Need-enum-told-5
-enum-told-5 c = search needs
-
-enum-known-answer : tie.Need-enum-known-answer
-enum-known-answer c = search needs
 
 returns : tie.Need-returns
 returns c = (rw (refused-before (shapeChecks _ _ _ _ _ _ _) _ (sym (c .before .before .before .message .ensures) ∙ c .before .checked .given .1)), (refl, refl))
@@ -113,42 +98,18 @@ same-length-2 c = search needs
 returns-2 : tie.Need-returns-2
 returns-2 c =
     let put = c .before .before .before .before in
-    let told = put .before .before .before in
-    let at = told .before .before .before .before .before .before .before in
-    let entry = told .before .before .before .before .before .before in
-    (sym (told .enum-told2 .given .1) ∙ said (told .before .before), (rw (put .put .ensures .0, at .block-at .ensures), rw (put .put .ensures .1, entry .block-at2 .ensures)))
+    let test = put .before .before .before in
+    let answer = test .before .before in
+    let at = answer .before .before .before .before .before in
+    let entry = answer .before .before .before .before in
+    let news = sym (test .before .changes .ensures) ∙ test .if1 .taken in
+    (said answer, (rw (news, put .put .ensures .0, at .block-at .ensures), rw (news, put .put .ensures .1, entry .block-at2 .ensures)))
 
 same-length-3 : tie.Need-same-length-3
 same-length-3 c = search needs
 
-same-length-4 : tie.Need-same-length-4
-same-length-4 c = search needs
-
 returns-3 : tie.Need-returns-3
-returns-3 c =
-    let put = c .before .before .before .before in
-    let told = put .before .before .before in
-    let at = told .before .before .before .before .before .before .before in
-    let entry = told .before .before .before .before .before .before in
-    (sym (told .enum-told3 .given .1) ∙ said (told .before .before), (rw (put .put2 .ensures .0, at .block-at .ensures), rw (put .put2 .ensures .1, entry .block-at2 .ensures)))
-
-same-length-5 : tie.Need-same-length-5
-same-length-5 c = search needs
-
-returns-4 : tie.Need-returns-4
-returns-4 c = (sym (c .enum-told4 .given .1) ∙ said (c .before .before), (refl, refl))
-
-same-length-6 : tie.Need-same-length-6
-same-length-6 c = search needs
-
-returns-5 : tie.Need-returns-5
-returns-5 c = (sym (c .enum-told5 .given .1) ∙ said (c .before .before), (refl, refl))
-
-same-length-7 : tie.Need-same-length-7
-same-length-7 c = search needs
-
-returns-6 : tie.Need-returns-6
-returns-6 c = (sym (c .before .answer2 .given .1) ∙ said (c .before .before .before), (refl, refl))
+returns-3 c = let none = sym (c .before .changes .ensures) ∙ c .if1 .left in (said (c .before .before), (rw none, rw none))
 
 pub receive-spec : {M : Type 1} → statement M
 receive-spec =
@@ -166,23 +127,11 @@ receive-spec =
     part-answer-start
     part-answer-end
     answer-requires
-    enum-told-2
+    changes-requires
     put-requires
-    enum-told-3
-    put-requires-2
-    enum-told-4
-    enum-told-5
-    enum-known-answer
     returns
     same-length
     same-length-2
     returns-2
     same-length-3
-    same-length-4
-    returns-3
-    same-length-5
-    returns-4
-    same-length-6
-    returns-5
-    same-length-7
-    returns-6)
+    returns-3)
