@@ -64,14 +64,14 @@ module _ (width height : ℕ) (held : Held) (m : Message) where
 pub station : Station
 station = record {
   one-message = one-message;
-  converging = λ width height base age sent start orderly sized. record {
-    mid-flight = held-newest width height base age sent orderly start sized;
-    some-newest = some-newest width height base age sent orderly start sized;
-    as-before = as-before width height base age sent orderly start sized;
-    never-refused = never-refused width height base age sent orderly start sized;
+  converging = λ width height base step sent start orderly sized. record {
+    mid-flight = held-newest width height base step sent orderly start sized;
+    some-newest = some-newest width height base step sent orderly start sized;
+    as-before = as-before width height base step sent orderly start sized;
+    never-refused = never-refused width height base step sent orderly start sized;
     converges = λ ms all every m newest.
-        held-newest width height base age sent orderly start sized ms all m (record { one = every m (newest .one); none-newer = λ n l. newest .none-newer n (all n l) });
-    any-order = any-order width height base age sent orderly start sized;
+        held-newest width height base step sent orderly start sized ms all m (record { one = every m (newest .one); none-newer = λ n l. newest .none-newer n (all n l) });
+    any-order = any-order width height base step sent orderly start sized;
   };
   last-clear = last-clear;
   sized-still = λ width height held es. history-sized width height es;

@@ -44,12 +44,12 @@ pub record OneMessage (width height : ℕ) (held : Held) (m : Message) : Type 0 
       × (entryAt (received width height held m) width column row ≡ entryAt held width column row)
 
 -- ---- messages of those that were sent, in any order and each any number of times, after a clear
-pub record Converging (width height : ℕ) (age : Message → ℕ) (sent : List Message) (start : Held) : Type 0 where
+pub record Converging (width height : ℕ) (step : Message → ℕ) (sent : List Message) (start : Held) : Type 0 where
   -- In mid-flight: each place holds the newest of those that arrived, with its edition; and there is a newest one.
-  pub mid-flight : (ms : List Message) → ((m : Message) → Among m ms → Among m sent) → (m : Message) → Newest (λ n. Among n ms) age m
+  pub mid-flight : (ms : List Message) → ((m : Message) → Among m ms → Among m sent) → (m : Message) → Newest (λ n. Among n ms) step m
       → Holds (arrived width height (startedAnew start) ms) width m
   pub some-newest : (ms : List Message) → ((m : Message) → Among m ms → Among m sent) → (m : Message) → Among m ms
-      → (n : Message) × SamePlace n m × Newest (λ n. Among n ms) age n
+      → (n : Message) × SamePlace n m × Newest (λ n. Among n ms) step n
   -- A place that none was for is as it was, and empty.
   pub as-before : (ms : List Message) → ((m : Message) → Among m ms → Among m sent) → (column row : ℕ) → column < width / 4 → row < height / 4
       → ((m : Message) → Among m ms → (m .column ≡ column) × (m .row ≡ row) → ⊥)
@@ -60,15 +60,15 @@ pub record Converging (width height : ℕ) (age : Message → ℕ) (sent : List 
       → ofReceived (receiveAnswer (arrived width height (startedAnew start) ms) width height m) ≡ Passed
   -- Once every one that was sent arrived, each place that was sent to holds its newest.
   pub converges : (ms : List Message) → ((m : Message) → Among m ms → Among m sent) → ((m : Message) → Among m sent → Among m ms) → (m : Message)
-      → Newest (λ n. Among n sent) age m → Holds (arrived width height (startedAnew start) ms) width m
+      → Newest (λ n. Among n sent) step m → Holds (arrived width height (startedAnew start) ms) width m
   -- Lists of the same messages end in the same tile and the same record.
   pub any-order : (ms ns : List Message) → ((m : Message) → Among m ms → Among m sent) → ((m : Message) → Among m ms → Among m ns)
       → ((m : Message) → Among m ns → Among m ms) → arrived width height (startedAnew start) ms ≡ arrived width height (startedAnew start) ns
 
 pub record Station : Type 0 where
   pub one-message : (width height : ℕ) (held : Held) (m : Message) → OneMessage width height held m
-  pub converging : (width height : ℕ) (base : ℕ → ℕ → ℕ) (age : Message → ℕ) (sent : List Message) (start : Held)
-      → Orderly width height base age sent → Sized width height start → Converging width height age sent start
+  pub converging : (width height : ℕ) (base : ℕ → ℕ → ℕ) (step : Message → ℕ) (sent : List Message) (start : Held)
+      → Orderly width height base step sent → Sized width height start → Converging width height step sent start
   -- Of a history with clears: what follows the last of them is messages after a clear, and the sizes stay what they are, so that all of the above reads from there.
   pub last-clear : (width height : ℕ) (held : Held) (es : List Event) (ms : List Message)
       → history width height held (es ++ Clears ∷ arrivals ms) ≡ arrived width height (startedAnew (history width height held es)) ms

@@ -11,17 +11,17 @@ use Rattle.station.specs.Editions.{Message, Held, entrySize, entryAt}
 use Rattle.station.specs.Histories.{startedAnew, arrived, Among, Orderly, Sized}
 use Rattle.station.proofs.OneMore.{Kept, reworded, one-more}
 
-module _ (width height : ℕ) (base : ℕ → ℕ → ℕ) (age : Message → ℕ) (sent : List Message) (orderly : Orderly width height base age sent) (start : Held) where
+module _ (width height : ℕ) (base : ℕ → ℕ → ℕ) (step : Message → ℕ) (sent : List Message) (orderly : Orderly width height base step sent) (start : Held) where
   abbrev After : (Message → Type 0) → Held → Type 0
-  After = Kept width height base age sent orderly start
+  After = Kept width height base step sent orderly start
 
   run : (ms : List Message) {Those : Message → Type 0} {held : Held} → After Those held → ((m : Message) → Among m ms → Among m sent)
       → After (λ n. Those n ⊎ Among n ms) (arrived width height held ms)
   unfolding arrived
-  run [] k all = reworded width height base age sent orderly start (λ n t. inl t) (λ n t. ⊎-elim (λ x. x) (λ x. absurd x) t) k
+  run [] k all = reworded width height base step sent orderly start (λ n t. inl t) (λ n t. ⊎-elim (λ x. x) (λ x. absurd x) t) k
   run (m ∷ ms) k all =
-      reworded width height base age sent orderly start (λ n t. ⊎-elim (λ s. ⊎-elim inl (λ e. inr (inl e)) s) (λ l. inr (inr l)) t) (λ n t. ⊎-elim (λ s. inl (inl s)) (λ s. ⊎-elim (λ e. inl (inr e)) inr s) t)
-      (run ms (one-more width height base age sent orderly start k m (all m (inl refl))) (λ n l. all n (inr l)))
+      reworded width height base step sent orderly start (λ n t. ⊎-elim (λ s. ⊎-elim inl (λ e. inr (inl e)) s) (λ l. inr (inr l)) t) (λ n t. ⊎-elim (λ s. inl (inl s)) (λ s. ⊎-elim (λ e. inl (inr e)) inr s) t)
+      (run ms (one-more width height base step sent orderly start k m (all m (inl refl))) (λ n l. all n (inr l)))
 
   module _ (sized : Sized width height start) where
     cleared-entry : (column row : ℕ) → column < along width → row < along height → entryAt (startedAnew start) width column row ≡ 0
@@ -38,4 +38,4 @@ module _ (width height : ℕ) (base : ℕ → ℕ → ℕ) (age : Message → �
 
     module _ (ms : List Message) (all : (m : Message) → Among m ms → Among m sent) where
       pub kept : After (λ n. Among n ms) (arrived width height (startedAnew start) ms)
-      kept = reworded width height base age sent orderly start (λ n t. ⊎-elim (λ x. absurd x) (λ x. x) t) (λ n t. inr t) (run ms at-start all)
+      kept = reworded width height base step sent orderly start (λ n t. ⊎-elim (λ x. absurd x) (λ x. x) t) (λ n t. inr t) (run ms at-start all)

@@ -13,33 +13,33 @@ use Rattle.station.proofs.OneMore.{For, Kept, own}
 use Rattle.station.proofs.Arrivals.{kept}
 use Rattle.station.proofs.Whole.{same-tile, same-record, same-held}
 
-module _ (width height : ℕ) (base : ℕ → ℕ → ℕ) (age : Message → ℕ) (sent : List Message) (orderly : Orderly width height base age sent) (start : Held) (sized : Sized width height start) where
+module _ (width height : ℕ) (base : ℕ → ℕ → ℕ) (step : Message → ℕ) (sent : List Message) (orderly : Orderly width height base step sent) (start : Held) (sized : Sized width height start) where
   abbrev at : List Message → Held
   at ms = arrived width height (startedAnew start) ms
 
-  -- two of one place and one age are one edition, with one content
-  one-age : (m n : Message) → Among m sent → Among n sent → SamePlace m n → age m ≡ age n → (m .edition ≡ n .edition) × (m .block ≡ n .block)
-  one-age m n p q place level =
+  -- two of one place and one step are one edition, with one content
+  one-step : (m n : Message) → Among m sent → Among n sent → SamePlace m n → step m ≡ step n → (m .edition ≡ n .edition) × (m .block ≡ n .block)
+  one-step m n p q place level =
       let one-base : base (m .column) (m .row) ≡ base (n .column) (n .row) = rw (place .0, place .1) in
-      let edition : m .edition ≡ n .edition = orderly .dated m p ∙ ap (λ (x : ℕ). (x + age m) % wrap) one-base ∙ ap (λ (x : ℕ). (base (n .column) (n .row) + x) % wrap) level ∙ sym (orderly .dated n q) in
+      let edition : m .edition ≡ n .edition = orderly .numbered m p ∙ ap (λ (x : ℕ). (x + step m) % wrap) one-base ∙ ap (λ (x : ℕ). (base (n .column) (n .row) + x) % wrap) level ∙ sym (orderly .numbered n q) in
       (edition, orderly .one-content m n p q place edition)
 
   module _ (ms : List Message) (all : (m : Message) → Among m ms → Among m sent) where
-    abbrev so-far : Kept width height base age sent orderly start (λ n. Among n ms) (at ms)
-    so-far = kept width height base age sent orderly start sized ms all
+    abbrev so-far : Kept width height base step sent orderly start (λ n. Among n ms) (at ms)
+    so-far = kept width height base step sent orderly start sized ms all
 
-    pub held-newest : (m : Message) → Newest (λ n. Among n ms) age m → Holds (at ms) width m
+    pub held-newest : (m : Message) → Newest (λ n. Among n ms) step m → Holds (at ms) width m
     held-newest m newest = ⊎-elim
         (λ u. absurd (u .none m (newest .one) (refl, refl)))
         (λ f.
         let no-newer = newest .none-newer (f .m) (f .newest .one) (f .there) in
         let no-older = f .newest .none-newer m (newest .one) (sym (f .there .0), sym (f .there .1)) in
-        let one = one-age (f .m) m (all (f .m) (f .newest .one)) (all m (newest .one)) (f .there) (omega arith) in
+        let one = one-step (f .m) m (all (f .m) (f .newest .one)) (all m (newest .one)) (f .there) (omega arith) in
         record { bytes = (rw (f .there .0, f .there .1) at (f .holds .bytes)) ∙ one .1; entry = (rw (f .there .0, f .there .1) at (f .holds .entry)) ∙ ap entryOf (one .0) })
         (so-far .each (m .column) (m .row) (orderly .across m (all m (newest .one))) (orderly .down m (all m (newest .one))))
 
     -- of those for a place one is the newest
-    pub some-newest : (m : Message) → Among m ms → (n : Message) × SamePlace n m × Newest (λ n. Among n ms) age n
+    pub some-newest : (m : Message) → Among m ms → (n : Message) × SamePlace n m × Newest (λ n. Among n ms) step n
     some-newest m one = ⊎-elim
         (λ u. absurd (u .none m one (refl, refl)))
         (λ f. (f .m, f .there, f .newest))
@@ -55,7 +55,7 @@ module _ (width height : ℕ) (base : ℕ → ℕ → ℕ) (age : Message → �
 
     -- the next one is not refused
     pub never-refused : (m : Message) → Among m sent → ofReceived (receiveAnswer (at ms) width height m) ≡ Passed
-    never-refused m was-sent = own width height base age sent orderly start so-far m was-sent .0
+    never-refused m was-sent = own width height base step sent orderly start so-far m was-sent .0
 
   -- Two lists of the same messages, whatever their order and however often each is there, end in the same bytes and the same record.
   pub any-order : (ms ns : List Message) → ((m : Message) → Among m ms → Among m sent) → ((m : Message) → Among m ms → Among m ns) → ((m : Message) → Among m ns → Among m ms) → at ms ≡ at ns

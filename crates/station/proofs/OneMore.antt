@@ -32,7 +32,7 @@ for-place m column row = go (eqb (m .column) column) (eqb (m .row) row) refl ref
     go true false p q = inr (λ both. eqb-false _ _ q (both .1))
     go false u p q = inr (λ both. eqb-false _ _ p (both .0))
 
-module _ (width height : ℕ) (base : ℕ → ℕ → ℕ) (age : Message → ℕ) (sent : List Message) (orderly : Orderly width height base age sent) (start : Held) where
+module _ (width height : ℕ) (base : ℕ → ℕ → ℕ) (step : Message → ℕ) (sent : List Message) (orderly : Orderly width height base step sent) (start : Held) where
   -- ---- what a place holds after those: nothing came for it, and it is as at the start, or the newest of them
   pub record Untouched (Those : Message → Type 0) (held : Held) (column row : ℕ) : Type 0 where
     pub none : (m : Message) → Those m → For column row m → ⊥
@@ -42,7 +42,7 @@ module _ (width height : ℕ) (base : ℕ → ℕ → ℕ) (age : Message → �
   pub record Filled (Those : Message → Type 0) (held : Held) (column row : ℕ) : Type 0 where
     pub m : Message
     pub there : For column row m
-    pub newest : Newest Those age m
+    pub newest : Newest Those step m
     pub holds : Holds held width m
 
   pub record Kept (Those : Message → Type 0) (held : Held) : Type 0 where
@@ -82,23 +82,23 @@ module _ (width height : ℕ) (base : ℕ → ℕ → ℕ) (age : Message → �
     by-place = fitting held width height m (k .sized) (orderly .across m was-sent) (orderly .down m was-sent) (orderly .eight m was-sent)
 
     -- it stands there now, where none was newer
-    now-there : changes answer ≡ true → ((n : Message) → Those n → SamePlace n m → age n ≤ age m) → Filled AndOne next (m .column) (m .row)
+    now-there : changes answer ≡ true → ((n : Message) → Those n → SamePlace n m → step n ≤ step m) → Filled AndOne next (m .column) (m .row)
     now-there e newest =
         let stands = here held width height m e in
         record {
           m = m;
           there = (refl, refl);
-          newest = record { one = inr refl; none-newer = λ n t p. ⊎-elim (λ old. newest n old p) (λ (same : n ≡ m). omega (arith, ap age same)) t };
+          newest = record { one = inr refl; none-newer = λ n t p. ⊎-elim (λ old. newest n old p) (λ (same : n ≡ m). omega (arith, ap step same)) t };
           holds = record { bytes = stands .0; entry = stands .1 };
         }
 
     -- what stood there stays, where it is not older
-    still-there : (f : Filled Those held (m .column) (m .row)) → changes answer ≡ false → age m ≤ age (f .m) → Filled AndOne next (m .column) (m .row)
+    still-there : (f : Filled Those held (m .column) (m .row)) → changes answer ≡ false → step m ≤ step (f .m) → Filled AndOne next (m .column) (m .row)
     still-there f e newer =
         rw (unchanged held width height m e) (record {
           m = f .m;
           there = f .there;
-          newest = record { one = inl (f .newest .one); none-newer = λ n t p. ⊎-elim (λ old. f .newest .none-newer n old p) (λ (same : n ≡ m). omega (arith, ap age same)) t };
+          newest = record { one = inl (f .newest .one); none-newer = λ n t p. ⊎-elim (λ old. f .newest .none-newer n old p) (λ (same : n ≡ m). omega (arith, ap step same)) t };
           holds = f .holds;
         })
 
@@ -114,29 +114,29 @@ module _ (width height : ℕ) (base : ℕ → ℕ → ℕ) (age : Message → �
     full-place f =
         let b = base (m .column) (m .row) in
         let held-sent = k .were-sent (f .m) (f .newest .one) in
-        let new : m .edition ≡ (b + age m) % wrap = orderly .dated m was-sent in
+        let new : m .edition ≡ (b + step m) % wrap = orderly .numbered m was-sent in
         let one-base : base (f .m .column) (f .m .row) ≡ b = rw (f .there .0, f .there .1) in
-        let old : f .m .edition ≡ (b + age (f .m)) % wrap = orderly .dated (f .m) held-sent ∙ ap (λ (x : ℕ). (x + age (f .m)) % wrap) one-base in
+        let old : f .m .edition ≡ (b + step (f .m)) % wrap = orderly .numbered (f .m) held-sent ∙ ap (λ (x : ℕ). (x + step (f .m)) % wrap) one-base in
         let entry-is : entry ≡ entryOf (f .m .edition) = rw (f .there .0, f .there .1) at (f .holds .entry) in
         let bytes-are : bytes ≡ f .m .block = rw (f .there .0, f .there .1) at (f .holds .bytes) in
         let full : entry ≡ 0 → ⊥ = λ e. omega arith in
-        let steps : ahead (m .edition) (editionIn entry) ≡ ahead ((b + age m) % wrap) ((b + age (f .m)) % wrap) =
-        ap (λ (e : ℕ). ahead e (editionIn entry)) new ∙ ap (λ (e : ℕ). ahead ((b + age m) % wrap) (editionIn e)) (entry-is ∙ ap entryOf old) ∙ ap (ahead ((b + age m) % wrap)) (entry-read b (age (f .m))) in
+        let steps : ahead (m .edition) (editionIn entry) ≡ ahead ((b + step m) % wrap) ((b + step (f .m)) % wrap) =
+        ap (λ (e : ℕ). ahead e (editionIn entry)) new ∙ ap (λ (e : ℕ). ahead ((b + step m) % wrap) (editionIn e)) (entry-is ∙ ap entryOf old) ∙ ap (ahead ((b + step m) % wrap)) (entry-read b (step (f .m))) in
         let short = orderly .span m was-sent in
         let held-short = orderly .span (f .m) held-sent in
-        dite (decLt (age (f .m)) (age m))
+        dite (decLt (step (f .m)) (step m))
         (λ l.
-        let apart = newer b (age (f .m)) (age m) l short in
+        let apart = newer b (step (f .m)) (step m) l short in
         let replaced : answer ≡ Replaced = by-place ∙ newer-replaces entry (m .edition) bytes (m .block) full (omega arith) (omega arith) in
         (ap ofReceived replaced, now-there (ap changes replaced) (λ n t p. let before = f .newest .none-newer n t (p .0 ∙ sym (f .there .0), p .1 ∙ sym (f .there .1)) in omega arith)))
-        (λ l. dite (decLt (age m) (age (f .m)))
+        (λ l. dite (decLt (step m) (step (f .m)))
         (λ g.
-        let behind = older b (age (f .m)) (age m) g held-short in
+        let behind = older b (step (f .m)) (step m) g held-short in
         let stays : answer ≡ Old = by-place ∙ older-stays entry (m .edition) bytes (m .block) full (omega arith) in
         (ap ofReceived stays, still-there f (ap changes stays) (omega arith)))
         (λ g.
-        let level : age (f .m) ≡ age m = omega arith in
-        let none : ahead (m .edition) (editionIn entry) ≡ 0 = steps ∙ ap (λ (h : ℕ). ahead ((b + age m) % wrap) ((b + h) % wrap)) level ∙ same b (age m) in
+        let level : step (f .m) ≡ step m = omega arith in
+        let none : ahead (m .edition) (editionIn entry) ≡ 0 = steps ∙ ap (λ (h : ℕ). ahead ((b + step m) % wrap) ((b + h) % wrap)) level ∙ same b (step m) in
         let one-edition : f .m .edition ≡ m .edition = old ∙ ap (λ (h : ℕ). (b + h) % wrap) level ∙ sym new in
         let content : bytes ≡ m .block = bytes-are ∙ orderly .one-content (f .m) m held-sent was-sent (f .there) one-edition in
         let repeated : answer ≡ Repeated = by-place ∙ equal-repeats entry (m .edition) bytes (m .block) full none (rw content (alike-same (m .block) bc4Size)) in

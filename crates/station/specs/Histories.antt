@@ -47,20 +47,20 @@ Among m (n ∷ ns) = (m ≡ n) ⊎ Among m ns
 abbrev pub SamePlace : Message → Message → Type 0
 SamePlace m n = (m .column ≡ n .column) × (m .row ≡ n .row)
 
--- What is asked of the messages that are sent for one tile. `base` is an edition for each place, and `age` how many steps after it a message's edition is:
--- for a place they lie within 32,767 steps, and no edition of a place has two contents.
-pub record Orderly (width height : ℕ) (base : ℕ → ℕ → ℕ) (age : Message → ℕ) (sent : List Message) : Type 0 where
+-- What is asked of the messages that are sent for one tile. `base` is an edition for each place, and `step` says how many steps after it a message's edition is:
+-- for a place they lie within 32,767 steps, and no edition of a place has two contents. Of two messages for a place the one with the higher step is the newer.
+pub record Orderly (width height : ℕ) (base : ℕ → ℕ → ℕ) (step : Message → ℕ) (sent : List Message) : Type 0 where
   pub across : (m : Message) → Among m sent → m .column < along width
   pub down : (m : Message) → Among m sent → m .row < along height
   pub eight : (m : Message) → Among m sent → length (m .block) ≡ bc4Size
-  pub dated : (m : Message) → Among m sent → m .edition ≡ (base (m .column) (m .row) + age m) % wrap
-  pub span : (m : Message) → Among m sent → age m ≤ 32767
+  pub numbered : (m : Message) → Among m sent → m .edition ≡ (base (m .column) (m .row) + step m) % wrap
+  pub span : (m : Message) → Among m sent → step m ≤ 32767
   pub one-content : (m n : Message) → Among m sent → Among n sent → SamePlace m n → m .edition ≡ n .edition → m .block ≡ n .block
 
 -- one of those, and none of those for its place is newer
-pub record Newest (Those : Message → Type 0) (age : Message → ℕ) (m : Message) : Type 0 where
+pub record Newest (Those : Message → Type 0) (step : Message → ℕ) (m : Message) : Type 0 where
   pub one : Those m
-  pub none-newer : (n : Message) → Those n → SamePlace n m → age n ≤ age m
+  pub none-newer : (n : Message) → Those n → SamePlace n m → step n ≤ step m
 
 -- a message's bytes and its edition stand at its place
 pub record Holds (held : Held) (width : ℕ) (m : Message) : Type 0 where
