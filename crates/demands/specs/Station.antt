@@ -10,7 +10,7 @@ use Rattle.station.specs.declared.Received.{Received}
 use Rattle.station.specs.declared.Received.the-variants.{Taken, Repeated, Replaced, Old, Refused as NotReceived}
 use Rattle.station.specs.Editions.{Message, Held, entryAt, bytesAt}
 use Rattle.station.specs.Receiving.{receiveAnswer, ofReceived}
-use Rattle.station.specs.Histories.{received, startedAnew, arrived, Event, history, arrivals, Among, SamePlace, Orderly, Newest, Holds, Sized}
+use Rattle.station.specs.Histories.{received, startedAnew, arrived, Event, history, arrivals, Among, AllAmong, For, SamePlace, Orderly, Newest, Holds, Sized}
 use Rattle.station.specs.Histories.Event.{Clears}
 
 -- ---- one message. It goes with the tile: its place is one of the tile's, and it has eight bytes.
@@ -39,31 +39,31 @@ pub record OneMessage (width height : ℕ) (held : Held) (m : Message) : Type 0 
   pub replaced : receiveAnswer held width height m ≡ Replaced → Holds (received width height held m) width m
   pub repeated : receiveAnswer held width height m ≡ Repeated → received width height held m ≡ held
   pub old : receiveAnswer held width height m ≡ Old → received width height held m ≡ held
-  pub nowhere-else : (column row : ℕ) → column < width / 4 → ((m .column ≡ column) × (m .row ≡ row) → ⊥)
+  pub nowhere-else : (column row : ℕ) → column < width / 4 → (For column row m → ⊥)
       → (bytesAt (received width height held m) width column row ≡ bytesAt held width column row)
       × (entryAt (received width height held m) width column row ≡ entryAt held width column row)
 
 -- ---- messages of those that were sent, in any order and each any number of times, after a clear
 pub record Converging (width height : ℕ) (step : Message → ℕ) (sent : List Message) (start : Held) : Type 0 where
   -- In mid-flight: each place holds the newest of those that arrived, with its edition; and there is a newest one.
-  pub mid-flight : (ms : List Message) → ((m : Message) → Among m ms → Among m sent) → (m : Message) → Newest (λ n. Among n ms) step m
+  pub mid-flight : (ms : List Message) → AllAmong ms sent → (m : Message) → Newest (λ n. Among n ms) step m
       → Holds (arrived width height (startedAnew start) ms) width m
-  pub some-newest : (ms : List Message) → ((m : Message) → Among m ms → Among m sent) → (m : Message) → Among m ms
+  pub some-newest : (ms : List Message) → AllAmong ms sent → (m : Message) → Among m ms
       → (n : Message) × SamePlace n m × Newest (λ n. Among n ms) step n
   -- A place that none was for is as it was, and empty.
-  pub as-before : (ms : List Message) → ((m : Message) → Among m ms → Among m sent) → (column row : ℕ) → column < width / 4 → row < height / 4
-      → ((m : Message) → Among m ms → (m .column ≡ column) × (m .row ≡ row) → ⊥)
+  pub as-before : (ms : List Message) → AllAmong ms sent → (column row : ℕ) → column < width / 4 → row < height / 4
+      → ((m : Message) → Among m ms → For column row m → ⊥)
       → (bytesAt (arrived width height (startedAnew start) ms) width column row ≡ bytesAt start width column row)
       × (entryAt (arrived width height (startedAnew start) ms) width column row ≡ 0)
   -- None is refused, whatever arrived before it.
-  pub never-refused : (ms : List Message) → ((m : Message) → Among m ms → Among m sent) → (m : Message) → Among m sent
+  pub never-refused : (ms : List Message) → AllAmong ms sent → (m : Message) → Among m sent
       → ofReceived (receiveAnswer (arrived width height (startedAnew start) ms) width height m) ≡ Passed
   -- Once every one that was sent arrived, each place that was sent to holds its newest.
-  pub converges : (ms : List Message) → ((m : Message) → Among m ms → Among m sent) → ((m : Message) → Among m sent → Among m ms) → (m : Message)
+  pub converges : (ms : List Message) → AllAmong ms sent → AllAmong sent ms → (m : Message)
       → Newest (λ n. Among n sent) step m → Holds (arrived width height (startedAnew start) ms) width m
   -- Lists of the same messages end in the same tile and the same record.
-  pub any-order : (ms ns : List Message) → ((m : Message) → Among m ms → Among m sent) → ((m : Message) → Among m ms → Among m ns)
-      → ((m : Message) → Among m ns → Among m ms) → arrived width height (startedAnew start) ms ≡ arrived width height (startedAnew start) ns
+  pub any-order : (ms ns : List Message) → AllAmong ms sent → AllAmong ms ns → AllAmong ns ms
+      → arrived width height (startedAnew start) ms ≡ arrived width height (startedAnew start) ns
 
 pub record Station : Type 0 where
   pub one-message : (width height : ℕ) (held : Held) (m : Message) → OneMessage width height held m

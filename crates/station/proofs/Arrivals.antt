@@ -8,14 +8,14 @@ use lib.ListN.{length, getD-replicate, length-replicate}
 use Rattle.place.specs.Place.{along, blockAt}
 use Rattle.place.proofs.Places.{block-within}
 use Rattle.station.specs.Editions.{Message, Held, entrySize, entryAt}
-use Rattle.station.specs.Histories.{startedAnew, arrived, Among, Orderly, Sized}
+use Rattle.station.specs.Histories.{startedAnew, arrived, Among, AllAmong, Orderly, Sized}
 use Rattle.station.proofs.OneMore.{Kept, reworded, one-more}
 
 module _ (width height : ℕ) (base : ℕ → ℕ → ℕ) (step : Message → ℕ) (sent : List Message) (orderly : Orderly width height base step sent) (start : Held) where
   abbrev After : (Message → Type 0) → Held → Type 0
   After = Kept width height base step sent orderly start
 
-  run : (ms : List Message) {Those : Message → Type 0} {held : Held} → After Those held → ((m : Message) → Among m ms → Among m sent)
+  run : (ms : List Message) {Those : Message → Type 0} {held : Held} → After Those held → AllAmong ms sent
       → After (λ n. Those n ⊎ Among n ms) (arrived width height held ms)
   unfolding arrived
   run [] k all = reworded width height base step sent orderly start (λ n t. inl t) (λ n t. ⊎-elim (λ x. x) (λ x. absurd x) t) k
@@ -36,6 +36,6 @@ module _ (width height : ℕ) (base : ℕ → ℕ → ℕ) (step : Message → �
       each = λ column row h l. inl (record { none = λ n t p. t; empty = cleared-entry column row h l; bytes = refl });
     }
 
-    module _ (ms : List Message) (all : (m : Message) → Among m ms → Among m sent) where
+    module _ (ms : List Message) (all : AllAmong ms sent) where
       pub kept : After (λ n. Among n ms) (arrived width height (startedAnew start) ms)
       kept = reworded width height base step sent orderly start (λ n t. ⊎-elim (λ x. absurd x) (λ x. x) t) (λ n t. inr t) (run ms at-start all)

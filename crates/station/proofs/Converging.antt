@@ -2,14 +2,14 @@
 use mathlib.Core.Path.{_≡_, refl, sym, ap, _∙_}
 use mathlib.Core.List.{List}
 use mathlib.Core.Logic.{_⊎_, ⊎-elim}
-use Prim.Native.Nat.{ℕ, _+_, _%_, _<_}
+use Prim.Native.Nat.{ℕ, _<_}
 use native.Mathlib.Omega.{arith}
 use Rattle.place.specs.Place.{along}
 use Rattle.refusal.specs.declared.Checked.the-variants.{Passed}
-use Rattle.station.specs.Editions.{Message, Held, entryAt, bytesAt, wrap, entryOf}
+use Rattle.station.specs.Editions.{Message, Held, entryAt, bytesAt, entryOf}
 use Rattle.station.specs.Receiving.{receiveAnswer, ofReceived}
-use Rattle.station.specs.Histories.{startedAnew, arrived, Among, SamePlace, Orderly, Newest, Holds, Sized}
-use Rattle.station.proofs.OneMore.{For, Kept, own}
+use Rattle.station.specs.Histories.{startedAnew, arrived, Among, AllAmong, For, SamePlace, Orderly, Newest, Holds, Sized}
+use Rattle.station.proofs.OneMore.{Kept, one-step, own}
 use Rattle.station.proofs.Arrivals.{kept}
 use Rattle.station.proofs.Whole.{same-tile, same-record, same-held}
 
@@ -17,14 +17,7 @@ module _ (width height : ℕ) (base : ℕ → ℕ → ℕ) (step : Message → �
   abbrev at : List Message → Held
   at ms = arrived width height (startedAnew start) ms
 
-  -- two of one place and one step are one edition, with one content
-  one-step : (m n : Message) → Among m sent → Among n sent → SamePlace m n → step m ≡ step n → (m .edition ≡ n .edition) × (m .block ≡ n .block)
-  one-step m n p q place level =
-      let one-base : base (m .column) (m .row) ≡ base (n .column) (n .row) = rw (place .0, place .1) in
-      let edition : m .edition ≡ n .edition = orderly .numbered m p ∙ ap (λ (x : ℕ). (x + step m) % wrap) one-base ∙ ap (λ (x : ℕ). (base (n .column) (n .row) + x) % wrap) level ∙ sym (orderly .numbered n q) in
-      (edition, orderly .one-content m n p q place edition)
-
-  module _ (ms : List Message) (all : (m : Message) → Among m ms → Among m sent) where
+  module _ (ms : List Message) (all : AllAmong ms sent) where
     abbrev so-far : Kept width height base step sent orderly start (λ n. Among n ms) (at ms)
     so-far = kept width height base step sent orderly start sized ms all
 
@@ -34,7 +27,7 @@ module _ (width height : ℕ) (base : ℕ → ℕ → ℕ) (step : Message → �
         (λ f.
         let no-newer = newest .none-newer (f .m) (f .newest .one) (f .there) in
         let no-older = f .newest .none-newer m (newest .one) (sym (f .there .0), sym (f .there .1)) in
-        let one = one-step (f .m) m (all (f .m) (f .newest .one)) (all m (newest .one)) (f .there) (omega arith) in
+        let one = one-step width height base step sent orderly start (f .m) m (all (f .m) (f .newest .one)) (all m (newest .one)) (f .there) (omega arith) in
         record { bytes = (rw (f .there .0, f .there .1) at (f .holds .bytes)) ∙ one .1; entry = (rw (f .there .0, f .there .1) at (f .holds .entry)) ∙ ap entryOf (one .0) })
         (so-far .each (m .column) (m .row) (orderly .across m (all m (newest .one))) (orderly .down m (all m (newest .one))))
 
@@ -58,9 +51,9 @@ module _ (width height : ℕ) (base : ℕ → ℕ → ℕ) (step : Message → �
     never-refused m was-sent = own width height base step sent orderly start so-far m was-sent .0
 
   -- Two lists of the same messages, whatever their order and however often each is there, end in the same bytes and the same record.
-  pub any-order : (ms ns : List Message) → ((m : Message) → Among m ms → Among m sent) → ((m : Message) → Among m ms → Among m ns) → ((m : Message) → Among m ns → Among m ms) → at ms ≡ at ns
+  pub any-order : (ms ns : List Message) → AllAmong ms sent → AllAmong ms ns → AllAmong ns ms → at ms ≡ at ns
   any-order ms ns all to from =
-      let also : (m : Message) → Among m ns → Among m sent = λ m l. all m (from m l) in
+      let also : AllAmong ns sent = λ m l. all m (from m l) in
       let k = so-far ms all in
       let l = so-far ns also in
       let each : (column row : ℕ) → column < along width → row < along height → (bytesAt (at ms) width column row ≡ bytesAt (at ns) width column row) × (entryAt (at ms) width column row ≡ entryAt (at ns) width column row) =

@@ -18,10 +18,10 @@ use Rattle.station.specs.declared.Received.{Received}
 use Rattle.station.specs.declared.Received.the-variants.{Refused as NotReceived}
 use Rattle.station.specs.Editions.{Message, Held, entrySize, entryAt, bytesAt, isEmpty}
 use Rattle.station.specs.Receiving.{editionChecks, fitChecks, heldChecks, becomes, receiveAnswer, changes}
-use Rattle.station.specs.Histories.{received, startedAnew, arrived, Sized}
+use Rattle.station.specs.Histories.{received, startedAnew, arrived, For, Sized}
 use Rattle.station.proofs.Room.{room}
 use Rattle.station.proofs.Messages.{still-sized, elsewhere, here, unchanged}
-use Rattle.station.proofs.OneMore.{For, for-place}
+use Rattle.station.proofs.OneMore.{for-place}
 use Rattle.station.proofs.Clears.{cleared-sized}
 
 -- an empty place looks at no bytes

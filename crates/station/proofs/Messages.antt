@@ -20,7 +20,7 @@ use Rattle.station.specs.declared.Received.{Received}
 use Rattle.station.specs.declared.Received.the-variants.{Refused as NotReceived}
 use Rattle.station.specs.Editions.{Message, Held, entrySize, entryAt, bytesAt, entryOf}
 use Rattle.station.specs.Receiving.{fitChecks, heldChecks, receiveChecks, becomes, receiveAnswer, changes, bytesPut, tileAfter, editionsAfter}
-use Rattle.station.specs.Histories.{received, Sized}
+use Rattle.station.specs.Histories.{received, For, Sized}
 use Rattle.station.proofs.Room.{Room, room}
 use Rattle.station.proofs.Cases.{atPlace}
 use Rattle.station.proofs.Standing.{put-length, put-here, put-before, put-after}
@@ -57,7 +57,7 @@ module _ (held : Held) (width height : ℕ) (m : Message) where
   still-sized s = record { good = s .good; tile = tile-length ∙ s .tile; entries = editions-length ∙ s .entries }
 
   -- ---- and all other places
-  pub elsewhere : (column row : ℕ) → column < along width → ((m .column ≡ column) × (m .row ≡ row) → ⊥)
+  pub elsewhere : (column row : ℕ) → column < along width → (For column row m → ⊥)
       → (bytesAt (received width height held m) width column row ≡ bytesAt held width column row) × (entryAt (received width height held m) width column row ≡ entryAt held width column row)
   elsewhere column row h other = go (changes answer) refl
     where

@@ -14,16 +14,12 @@ use Rattle.station.specs.declared.Received.{Received}
 use Rattle.station.specs.declared.Received.the-variants.{Taken, Repeated, Replaced, Old}
 use Rattle.station.specs.Editions.{Message, Held, entryAt, bytesAt, wrap, editionIn, entryOf, ahead}
 use Rattle.station.specs.Receiving.{receiveAnswer, ofReceived, changes}
-use Rattle.station.specs.Histories.{received, Among, SamePlace, Orderly, Newest, Holds, Sized}
+use Rattle.station.specs.Histories.{received, Among, For, SamePlace, Orderly, Newest, Holds, Sized}
 use Rattle.station.proofs.Steps.{newer, same, older, entry-read}
 use Rattle.station.proofs.Cases.{atPlace, empty-takes, equal-repeats, newer-replaces, older-stays, alike-same}
 use Rattle.station.proofs.Messages.{still-sized, elsewhere, here, unchanged, fitting}
 
--- for a place
-abbrev pub For : ℕ → ℕ → Message → Type 0
-For column row m = (m .column ≡ column) × (m .row ≡ row)
-
--- is a message for it, or not?
+-- is a message for a place, or not?
 pub for-place : (m : Message) (column row : ℕ) → For column row m ⊎ (For column row m → ⊥)
 for-place m column row = go (eqb (m .column) column) (eqb (m .row) row) refl refl
   where
@@ -60,6 +56,13 @@ module _ (width height : ℕ) (base : ℕ → ℕ → ℕ) (step : Message → �
         (λ (f : Filled _ _ column row). inr (record { m = f .m; there = f .there; newest = record { one = to (f .m) (f .newest .one); none-newer = λ n t. f .newest .none-newer n (from n t) }; holds = f .holds }))
         (k .each column row h l);
   }
+
+  -- two for one place, of one step, are one edition, with one content
+  pub one-step : (m n : Message) → Among m sent → Among n sent → SamePlace m n → step m ≡ step n → (m .edition ≡ n .edition) × (m .block ≡ n .block)
+  one-step m n p q place level =
+      let one-base : base (m .column) (m .row) ≡ base (n .column) (n .row) = rw (place .0, place .1) in
+      let edition : m .edition ≡ n .edition = orderly .numbered m p ∙ ap (λ (x : ℕ). (x + step m) % wrap) one-base ∙ ap (λ (x : ℕ). (base (n .column) (n .row) + x) % wrap) level ∙ sym (orderly .numbered n q) in
+      (edition, orderly .one-content m n p q place edition)
 
   -- ---- one message more
   module _ {Those : Message → Type 0} {held : Held} (k : Kept Those held) (m : Message) (was-sent : Among m sent) where
@@ -137,8 +140,7 @@ module _ (width height : ℕ) (base : ℕ → ℕ → ℕ) (step : Message → �
         (λ g.
         let level : step (f .m) ≡ step m = omega arith in
         let none : ahead (m .edition) (editionIn entry) ≡ 0 = steps ∙ ap (λ (h : ℕ). ahead ((b + step m) % wrap) ((b + h) % wrap)) level ∙ same b (step m) in
-        let one-edition : f .m .edition ≡ m .edition = old ∙ ap (λ (h : ℕ). (b + h) % wrap) level ∙ sym new in
-        let content : bytes ≡ m .block = bytes-are ∙ orderly .one-content (f .m) m held-sent was-sent (f .there) one-edition in
+        let content : bytes ≡ m .block = bytes-are ∙ one-step (f .m) m held-sent was-sent (f .there) level .1 in
         let repeated : answer ≡ Repeated = by-place ∙ equal-repeats entry (m .edition) bytes (m .block) full none (rw content (alike-same (m .block) bc4Size)) in
         (ap ofReceived repeated, still-there f (ap changes repeated) (omega arith))))
 

@@ -44,8 +44,14 @@ abbrev pub Among : Message → List Message → Type 0
 Among m [] = ⊥
 Among m (n ∷ ns) = (m ≡ n) ⊎ Among m ns
 
+abbrev pub AllAmong : List Message → List Message → Type 0
+AllAmong ms ns = (m : Message) → Among m ms → Among m ns
+
+abbrev pub For : ℕ → ℕ → Message → Type 0
+For column row m = (m .column ≡ column) × (m .row ≡ row)
+
 abbrev pub SamePlace : Message → Message → Type 0
-SamePlace m n = (m .column ≡ n .column) × (m .row ≡ n .row)
+SamePlace m n = For (n .column) (n .row) m
 
 -- What is asked of the messages that are sent for one tile. `base` is an edition for each place, and `step` says how many steps after it a message's edition is:
 -- for a place they lie within 32,767 steps, and no edition of a place has two contents. Of two messages for a place the one with the higher step is the newer.
