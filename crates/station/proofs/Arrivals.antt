@@ -1,14 +1,11 @@
 -- Any messages of an orderly list, in any order and any number of times, after a clear: each place holds the newest that arrived.
-use mathlib.Core.Path.{_≡_, refl, _∙_}
+use mathlib.Core.Path.{refl}
 use mathlib.Core.List.{List, [], _∷_}
 use mathlib.Core.Logic.{_⊎_, inl, inr, ⊎-elim}
-use Prim.Native.Nat.{ℕ, _<_}
-use native.Mathlib.Omega.{arith}
-use lib.ListN.{length, getD-replicate, length-replicate}
-use Rattle.place.specs.Place.{along, blockAt}
-use Rattle.place.proofs.Places.{block-within}
-use Rattle.station.specs.Editions.{Message, Held, entrySize, entryAt}
+use Prim.Native.Nat.{ℕ}
+use Rattle.station.specs.Editions.{Message, Held}
 use Rattle.station.specs.Histories.{startedAnew, arrived, Among, AllAmong, Orderly, Sized}
+use Rattle.station.proofs.Clears.{cleared-sized, cleared-entry}
 use Rattle.station.proofs.OneMore.{Kept, reworded, one-more}
 
 module _ (width height : ℕ) (base : ℕ → ℕ → ℕ) (step : Message → ℕ) (sent : List Message) (orderly : Orderly width height base step sent) (start : Held) where
@@ -24,16 +21,11 @@ module _ (width height : ℕ) (base : ℕ → ℕ → ℕ) (step : Message → �
       (run ms (one-more width height base step sent orderly start k m (all m (inl refl))) (λ n l. all n (inr l)))
 
   module _ (sized : Sized width height start) where
-    cleared-entry : (column row : ℕ) → column < along width → row < along height → entryAt (startedAnew start) width column row ≡ 0
-    cleared-entry column row h l =
-        getD-replicate (length (start .editions)) (blockAt entrySize width column row) 0 0
-        (omega (arith, block-within width height (sized .good) entrySize column row h l, sized .entries))
-
     at-start : After (λ n. ⊥) (startedAnew start)
     at-start = record {
       were-sent = λ n t. absurd t;
-      sized = record { good = sized .good; tile = sized .tile; entries = length-replicate (length (start .editions)) 0 ∙ sized .entries };
-      each = λ column row h l. inl (record { none = λ n t p. t; empty = cleared-entry column row h l; bytes = refl });
+      sized = cleared-sized width height sized;
+      each = λ column row h l. inl (record { none = λ n t p. t; empty = cleared-entry width height sized column row h l; bytes = refl });
     }
 
     module _ (ms : List Message) (all : AllAmong ms sent) where

@@ -4,25 +4,23 @@ use mathlib.Core.Bool.{Bool, true, false}
 use mathlib.Core.List.{List, [], _∷_}
 use mathlib.Core.Logic.{_⊎_, ⊎-elim}
 use Prim.Native.Nat.{ℕ, _<_}
-use native.Mathlib.Omega.{arith}
 use lib.Dec.{eqb}
-use lib.ListN.{length, replicate, getD-replicate}
+use lib.ListN.{length, replicate}
 use borrow.Author.Tests.{eqb-false}
-use Rattle.place.specs.Place.{along, blockAt}
-use Rattle.place.proofs.Places.{block-within}
+use Rattle.place.specs.Place.{along}
 use Rattle.refusal.specs.declared.Checked.{Checked}
 use Rattle.refusal.specs.declared.Checked.the-variants.{Passed, Refused}
 use Rattle.refusal.specs.Refusals.{firstOf, answered}
 use Rattle.refusal.proofs.Firsts.{first-append}
 use Rattle.station.specs.declared.Received.{Received}
 use Rattle.station.specs.declared.Received.the-variants.{Refused as NotReceived}
-use Rattle.station.specs.Editions.{Message, Held, entrySize, entryAt, bytesAt, isEmpty}
+use Rattle.station.specs.Editions.{Message, Held, entryAt, bytesAt, isEmpty}
 use Rattle.station.specs.Receiving.{editionChecks, fitChecks, heldChecks, becomes, receiveAnswer, changes}
 use Rattle.station.specs.Histories.{received, startedAnew, arrived, For, Sized}
 use Rattle.station.proofs.Room.{room}
 use Rattle.station.proofs.Messages.{still-sized, elsewhere, here, unchanged}
 use Rattle.station.proofs.OneMore.{for-place}
-use Rattle.station.proofs.Clears.{cleared-sized}
+use Rattle.station.proofs.Clears.{cleared-sized, cleared-entry}
 
 -- an empty place looks at no bytes
 empty-alike : (entry edition : ℕ) (xs ys block : List ℕ) → eqb entry 0 ≡ true → firstOf (editionChecks entry edition xs block) ≡ firstOf (editionChecks entry edition ys block)
@@ -102,7 +100,7 @@ module _ (width height : ℕ) where
     first = cleared-sized width height s;
     second = cleared-sized width height t;
     records = ap (λ (n : ℕ). replicate n 0) (s .entries ∙ sym (t .entries));
-    bytes = λ column row p q full. absurd (full (getD-replicate (length (h .editions)) (blockAt entrySize width column row) 0 0 (omega (arith, block-within width height (s .good) entrySize column row p q, s .entries))));
+    bytes = λ column row p q full. absurd (full (cleared-entry width height s column row p q));
   }
 
   pub forgotten : {h g : Held} → Sized width height h → Sized width height g → (ms : List Message) → Agree (arrived width height (startedAnew h) ms) (arrived width height (startedAnew g) ms)
