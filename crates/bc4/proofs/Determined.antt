@@ -35,48 +35,48 @@ use Rattle.bc4.proofs.encode_tile.Reads as encode-tile
 use Rattle.bc4.proofs.block_view.Kinds as block-view-kinds
 use Rattle.bc4.proofs.block_view.Reads as Block-view
 
-pub encode-determined : One-answer 1 encode-block-kinds.ps encode-block-kinds.r encode-block.Post
-encode-determined κs a x y s t p q = p ∙ sym q
+pub encode_determined : One-answer 1 encode-block-kinds.ps encode-block-kinds.r encode-block.Post
+encode_determined κs a x y s t p q = p ∙ sym q
 
-pub error-determined : One-answer 2 block-error-kinds.ps block-error-kinds.r block-error.Post
-error-determined κs a x y s t p q = p ∙ sym q
+pub error_determined : One-answer 2 block-error-kinds.ps block-error-kinds.r block-error.Post
+error_determined κs a x y s t p q = p ∙ sym q
 
-pub resend-determined : One-answer 2 resend-kinds.ps resend-kinds.r resend.Post
-resend-determined κs a x y s t p q = p ∙ sym q
+pub resend_determined : One-answer 2 resend-kinds.ps resend-kinds.r resend.Post
+resend_determined κs a x y s t p q = p ∙ sym q
 
-pub better-determined : One-answer 1 better-kinds.ps better-kinds.r better.Post
-better-determined κs a x y s t p q = p ∙ sym q
+pub better_determined : One-answer 1 better-kinds.ps better-kinds.r better.Post
+better_determined κs a x y s t p q = p ∙ sym q
 
-pub refusal-determined : One-answer 1 view-refusal-kinds.ps view-refusal-kinds.r view-refusal.Post
-refusal-determined κs a x y s t p q = p ∙ sym q
+pub refusal_determined : One-answer 1 view-refusal-kinds.ps view-refusal-kinds.r view-refusal.Post
+refusal_determined κs a x y s t p q = p ∙ sym q
 
-pub bytes-determined : One-answer 0 bytes-kinds.ps bytes-kinds.r bytes.Post
-bytes-determined κs a x y s t p q = p ∙ sym q
+pub bytes_determined : One-answer 0 bytes-kinds.ps bytes-kinds.r bytes.Post
+bytes_determined κs a x y s t p q = p ∙ sym q
 
-pub number-determined : One-answer 0 number-kinds.ps number-kinds.r number.Post
-number-determined κs a x y s t p q = p ∙ sym q
+pub number_determined : One-answer 0 number-kinds.ps number-kinds.r number.Post
+number_determined κs a x y s t p q = p ∙ sym q
 
 -- decode: the answer, and the sixteen samples
-pub decode-determined : One-outcome 2 decode-block-kinds.ps decode-block-kinds.r decode-block.Post (Checked × List Float) (λ κs x s. (x, s.1.1.0.now))
-decode-determined κs a x y s t p q = cc
+pub decode_determined : One-outcome 2 decode-block-kinds.ps decode-block-kinds.r decode-block.Post (Checked × List Float) (λ κs x s. (x, s.1.1.0.now))
+decode_determined κs a x y s t p q = cc
 
 -- encode tile: the answer, and every byte of the output
-pub tile-determined : One-outcome 2 encode-tile-kinds.ps encode-tile-kinds.r encode-tile.Post (Tiled × List ℕ) (λ κs x s. (x, s.1.1.1.1.0.now))
-tile-determined κs a x y s t p q = cc
+pub tile_determined : One-outcome 2 encode-tile-kinds.ps encode-tile-kinds.r encode-tile.Post (Tiled × List ℕ) (λ κs x s. (x, s.1.1.1.1.0.now))
+tile_determined κs a x y s t p q = cc
 
 -- a word, and the same calls with one for the options
-pub word-read-determined : One-answer 0 word-read-kinds.ps word-read-kinds.r word_read.Post
-word-read-determined κs a x y s t p q = p ∙ sym q
+pub word_read_determined : One-answer 0 word-read-kinds.ps word-read-kinds.r word_read.Post
+word_read_determined κs a x y s t p q = p ∙ sym q
 
-pub word-encode-determined : One-answer 1 word-encode-block-kinds.ps word-encode-block-kinds.r word-encode-block.Post
-word-encode-determined κs a x y s t p q = p ∙ sym q
+pub word_encode_determined : One-answer 1 word-encode-block-kinds.ps word-encode-block-kinds.r word-encode-block.Post
+word_encode_determined κs a x y s t p q = p ∙ sym q
 
-pub word-resend-determined : One-answer 2 word-resend-kinds.ps word-resend-kinds.r word-resend.Post
-word-resend-determined κs a x y s t p q = p ∙ sym q
+pub word_resend_determined : One-answer 2 word-resend-kinds.ps word-resend-kinds.r word-resend.Post
+word_resend_determined κs a x y s t p q = p ∙ sym q
 
-pub word-tile-determined : One-outcome 2 word-encode-tile-kinds.ps word-encode-tile-kinds.r word-encode-tile.Post (Tiled × List ℕ) (λ κs x s. (x, s.1.1.1.1.0.now))
-word-tile-determined κs a x y s t p q = cc
+pub word_tile_determined : One-outcome 2 word-encode-tile-kinds.ps word-encode-tile-kinds.r word-encode-tile.Post (Tiled × List ℕ) (λ κs x s. (x, s.1.1.1.1.0.now))
+word_tile_determined κs a x y s t p q = cc
 
 -- block view: the bytes of the part. Which part it is, where two blocks of a tile are alike, the contract of a slice does not say.
-pub view-determined : One-outcome 1 block-view-kinds.ps block-view-kinds.r Block-view.Post (List ℕ) (λ κs x s. x.now)
-view-determined κs a x y s t p q = p ∙ sym q
+pub view_determined : One-outcome 1 block-view-kinds.ps block-view-kinds.r Block-view.Post (List ℕ) (λ κs x s. x.now)
+view_determined κs a x y s t p q = p ∙ sym q

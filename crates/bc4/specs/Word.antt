@@ -15,18 +15,18 @@ use Rattle.bc4.specs.declared.Resent.{Resent}
 use Rattle.bc4.specs.declared.Resent.TheVariants.{Block as Answered, Refused as NotResent}
 use Rattle.bc4.specs.declared.Tiled.{Tiled}
 use Rattle.bc4.specs.declared.Tiled.TheVariants.{Written, Refused as NotTiled}
-use Rattle.index_list.specs.Layout.{fromBytes}
+use Rattle.index_list.specs.Layout.{from_bytes}
 use Rattle.encode.specs.Encoder.{compressed}
-use Rattle.place.specs.Place.{bc4Size, encodedLength}
-use Rattle.refusal.specs.Refusals.{first_of, answered, encodeChecks, resendChecks, tileChecks, andWord}
-use Rattle.bc4.specs.Calls.{betterOf}
+use Rattle.place.specs.Place.{bc4_size, encoded_length}
+use Rattle.refusal.specs.Refusals.{first_of, answered, encode_checks, resend_checks, tile_checks, and_word}
+use Rattle.bc4.specs.Calls.{better_of}
 
 -- whether bit k of the flags is set
 abbrev pub flag : ℕ → ℕ → Bool
 flag flags k = eqb (flags / 2 ^ k % 2) 1
 
-unfoldable pub optionsOf : ℕ → ℕ → Quantization → Options
-optionsOf flags limit quality = record {
+unfoldable pub options_of : ℕ → ℕ → Quantization → Options
+options_of flags limit quality = record {
   dither = flag flags 0;
   snorm = flag flags 1;
   brute_force = flag flags 2;
@@ -39,21 +39,21 @@ optionsOf flags limit quality = record {
   iter_initial_inter4 = flag flags 7;
 }
 
-abbrev pub qualityOf : ℕ → Quantization
-qualityOf byte = cond (eqb byte 0) Round (cond (eqb byte 1) MediumQuality HighQuality)
+abbrev pub quality_of : ℕ → Quantization
+quality_of byte = cond (eqb byte 0) Round (cond (eqb byte 1) MediumQuality HighQuality)
 
 unfoldable pub word_of : ℕ → ℕ → ℕ → ℕ → Word
-word_of flags limit quality last = record { options = optionsOf flags limit (qualityOf quality); malformed = ltb 2 quality || not (eqb last 0) }
+word_of flags limit quality last = record { options = options_of flags limit (quality_of quality); malformed = ltb 2 quality || not (eqb last 0) }
 
 -- ---- the calls that take a word
-abbrev pub encodeByWord : List Float → Word → Encoded
-encodeByWord samples w = answered NotEncoded (Block (compressed samples w.options)) (first_of (andWord (encodeChecks samples) w.malformed))
+abbrev pub encode_by_word : List Float → Word → Encoded
+encode_by_word samples w = answered NotEncoded (Block (compressed samples w.options)) (first_of (and_word (encode_checks samples) w.malformed))
 
-abbrev pub resendByWord : List Float → List ℕ → Word → Resent
-resendByWord samples held w =
-    answered NotResent (Answered (betterOf samples (fromBytes held) w.options)) (first_of (andWord (resendChecks samples held w.options) w.malformed))
+abbrev pub resend_by_word : List Float → List ℕ → Word → Resent
+resend_by_word samples held w =
+    answered NotResent (Answered (better_of samples (from_bytes held) w.options)) (first_of (and_word (resend_checks samples held w.options) w.malformed))
 
 -- `room` is the length of the output
-abbrev pub tileByWord : List Float → ℕ → ℕ → Word → ℕ → Tiled
-tileByWord samples width height w room =
-    answered NotTiled (Written (encodedLength bc4Size width height)) (first_of (andWord (tileChecks samples width height room) w.malformed))
+abbrev pub tile_by_word : List Float → ℕ → ℕ → Word → ℕ → Tiled
+tile_by_word samples width height w room =
+    answered NotTiled (Written (encoded_length bc4_size width height)) (first_of (and_word (tile_checks samples width height room) w.malformed))

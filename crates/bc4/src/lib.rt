@@ -2,8 +2,8 @@
 // lays them out.
 ghost use Rattle.std.specs.Prelude.{◌≡◌, length};
 ghost use Rattle.index_list.specs.Layout.{bytes_of};
-ghost use Rattle.refusal.specs.Refusals.{first_of, decodeChecks, viewChecks};
-ghost use Rattle.bc4.specs.Calls.{encodeAnswer, samplesAfter, errorAnswer, betterOf, resendAnswer, tileAnswer, outAfter, view_of};
+ghost use Rattle.refusal.specs.Refusals.{first_of, decode_checks, view_checks};
+ghost use Rattle.bc4.specs.Calls.{encode_answer, samples_after, error_answer, better_of, resend_answer, tile_answer, out_after, view_of};
 
 pub mod word;
 
@@ -58,7 +58,7 @@ fn sixteen(samples: &[f32]) -> [f32; 16]
 }
 
 pub fn encode_block(samples: &[f32], o: Options) -> Encoded
-    ensures { result ≡ encodeAnswer samples.now o }
+    ensures { result ≡ encode_answer samples.now o }
 {
     let checked = refusal::encode(samples);
     match checked {
@@ -72,8 +72,8 @@ pub fn encode_block(samples: &[f32], o: Options) -> Encoded
 
 // Sixteen samples into the caller's array, which stays as it was on a refusal.
 pub fn decode_block(encoded: &[u8], snorm: bool, samples: &mut [f32; 16]) -> Checked
-    ensures answer { result ≡ first_of (decodeChecks encoded.now) }
-    ensures samples { samples.new ≡ samplesAfter result encoded.now snorm samples.old }
+    ensures answer { result ≡ first_of (decode_checks encoded.now) }
+    ensures samples { samples.new ≡ samples_after result encoded.now snorm samples.old }
 {
     let checked = refusal::decode(encoded);
     match checked {
@@ -86,7 +86,7 @@ pub fn decode_block(encoded: &[u8], snorm: bool, samples: &mut [f32; 16]) -> Che
 }
 
 pub fn block_error(samples: &[f32], encoded: &[u8], snorm: bool) -> Scored
-    ensures { result ≡ errorAnswer samples.now encoded.now snorm }
+    ensures { result ≡ error_answer samples.now encoded.now snorm }
 {
     let checked = refusal::error(samples, encoded);
     match checked {
@@ -100,7 +100,7 @@ pub fn block_error(samples: &[f32], encoded: &[u8], snorm: bool) -> Scored
 
 // Encodes afresh, and hands back the fresh bytes exactly when their block error is strictly below that of the held ones.
 pub fn resend(samples: &[f32], held: &[u8], o: Options) -> Resent
-    ensures { result ≡ resendAnswer samples.now held.now o }
+    ensures { result ≡ resend_answer samples.now held.now o }
 {
     let checked = refusal::resend(samples, held, o);
     match checked {
@@ -114,7 +114,7 @@ pub fn resend(samples: &[f32], held: &[u8], o: Options) -> Resent
 
 // Of samples that were checked: the choice of a resend.
 pub fn better(b: &[f32; 16], held: u64, o: Options) -> Kept
-    ensures { result ≡ betterOf b.now held o }
+    ensures { result ≡ better_of b.now held o }
 {
     let fresh = encode::compress_bc4_block(b, o);
     let fresh_error = decode::block_error(b, fresh, o.snorm);
@@ -139,8 +139,8 @@ pub fn encode_tile(
     o: Options,
     out: &mut [u8],
 ) -> Tiled
-    ensures answer { result ≡ tileAnswer samples.now width height (length out.old) }
-    ensures bytes { out.new ≡ outAfter result samples.now width height o out.old }
+    ensures answer { result ≡ tile_answer samples.now width height (length out.old) }
+    ensures bytes { out.new ≡ out_after result samples.now width height o out.old }
 {
     let checked = refusal::tile(samples, width, height, out.len());
     match checked {
@@ -164,7 +164,7 @@ pub fn block_view(tile: &[u8], width: usize, height: usize, column: usize, row: 
 }
 
 pub fn view_refusal(tile: &[u8], width: usize, height: usize, column: usize, row: usize) -> Checked
-    ensures { result ≡ first_of (viewChecks (length tile.now) width height column row) }
+    ensures { result ≡ first_of (view_checks (length tile.now) width height column row) }
 {
     refusal::view(tile, width, height, column, row)
 }

@@ -1,7 +1,7 @@
 // Document 01, "The program": the options as a word of four bytes, and the calls that take one. Refusal 8 comes after all others.
 ghost use Rattle.std.specs.Prelude.{◌≡◌, length};
-ghost use Rattle.bc4.specs.Calls.{outAfter};
-ghost use Rattle.bc4.specs.Word.{optionsOf, qualityOf, word_of, encodeByWord, resendByWord, tileByWord};
+ghost use Rattle.bc4.specs.Calls.{out_after};
+ghost use Rattle.bc4.specs.Word.{options_of, quality_of, word_of, encode_by_word, resend_by_word, tile_by_word};
 
 use crate::{Encoded, Resent, Tiled};
 use options::{Options, Quantization};
@@ -14,7 +14,7 @@ pub struct Word {
 }
 
 fn options(flags: u8, limit: u8, quality: Quantization) -> Options
-    ensures { result ≡ optionsOf flags limit quality }
+    ensures { result ≡ options_of flags limit quality }
 {
     Options {
         dither: flags % 2 == 1,
@@ -31,7 +31,7 @@ fn options(flags: u8, limit: u8, quality: Quantization) -> Options
 }
 
 fn quality_of(byte: u8) -> Quantization
-    ensures { result ≡ qualityOf byte }
+    ensures { result ≡ quality_of byte }
 {
     if byte == 0 {
         return Quantization::Round;
@@ -52,7 +52,7 @@ pub fn read(flags: u8, limit: u8, quality: u8, last: u8) -> Word
 }
 
 pub fn encode_block(samples: &[f32], w: Word) -> Encoded
-    ensures { result ≡ encodeByWord samples.now w }
+    ensures { result ≡ encode_by_word samples.now w }
 {
     if w.malformed {
         return Encoded::Refused(refusal::or_malformed(refusal::encode(samples)));
@@ -61,7 +61,7 @@ pub fn encode_block(samples: &[f32], w: Word) -> Encoded
 }
 
 pub fn resend(samples: &[f32], held: &[u8], w: Word) -> Resent
-    ensures { result ≡ resendByWord samples.now held.now w }
+    ensures { result ≡ resend_by_word samples.now held.now w }
 {
     if w.malformed {
         return Resent::Refused(refusal::or_malformed(refusal::resend(samples, held, w.options)));
@@ -70,8 +70,8 @@ pub fn resend(samples: &[f32], held: &[u8], w: Word) -> Resent
 }
 
 pub fn encode_tile(samples: &[f32], width: usize, height: usize, w: Word, out: &mut [u8]) -> Tiled
-    ensures answer { result ≡ tileByWord samples.now width height w (length out.old) }
-    ensures bytes { out.new ≡ outAfter result samples.now width height w.options out.old }
+    ensures answer { result ≡ tile_by_word samples.now width height w (length out.old) }
+    ensures bytes { out.new ≡ out_after result samples.now width height w.options out.old }
 {
     if w.malformed {
         let checked = refusal::tile(samples, width, height, out.len());

@@ -29,41 +29,41 @@ use Rattle.bc5.proofs.word.resend.Reads as word-resend
 use Rattle.bc5.proofs.word.encode_tile.Kinds as word-encode-tile-kinds
 use Rattle.bc5.proofs.word.encode_tile.Reads as word-encode-tile
 
-pub bytes-determined : One-answer 0 bytes-kinds.ps bytes-kinds.r bytes.Post
-bytes-determined κs a x y s t p q = p ∙ sym q
+pub bytes_determined : One-answer 0 bytes-kinds.ps bytes-kinds.r bytes.Post
+bytes_determined κs a x y s t p q = p ∙ sym q
 
-pub encode-determined : One-answer 2 encode-block-kinds.ps encode-block-kinds.r encode-block.Post
-encode-determined κs a x y s t p q = p ∙ sym q
+pub encode_determined : One-answer 2 encode-block-kinds.ps encode-block-kinds.r encode-block.Post
+encode_determined κs a x y s t p q = p ∙ sym q
 
-pub error-determined : One-answer 3 block-error-kinds.ps block-error-kinds.r block-error.Post
-error-determined κs a x y s t p q = p ∙ sym q
+pub error_determined : One-answer 3 block-error-kinds.ps block-error-kinds.r block-error.Post
+error_determined κs a x y s t p q = p ∙ sym q
 
-pub resend-determined : One-answer 3 resend-kinds.ps resend-kinds.r resend.Post
-resend-determined κs a x y s t p q = p ∙ sym q
+pub resend_determined : One-answer 3 resend-kinds.ps resend-kinds.r resend.Post
+resend_determined κs a x y s t p q = p ∙ sym q
 
-pub refusal-determined : One-answer 1 view-refusal-kinds.ps view-refusal-kinds.r view-refusal.Post
-refusal-determined κs a x y s t p q = p ∙ sym q
+pub refusal_determined : One-answer 1 view-refusal-kinds.ps view-refusal-kinds.r view-refusal.Post
+refusal_determined κs a x y s t p q = p ∙ sym q
 
 -- decode: the answer, and the sixteen samples of each channel
-pub decode-determined : One-outcome 3 decode-block-kinds.ps decode-block-kinds.r decode-block.Post (Checked × List Float × List Float)
+pub decode_determined : One-outcome 3 decode-block-kinds.ps decode-block-kinds.r decode-block.Post (Checked × List Float × List Float)
     (λ κs x s. (x, s.1.1.0.now, s.1.1.1.0.now))
-decode-determined κs a x y s t p q = cc
+decode_determined κs a x y s t p q = cc
 
 -- encode tile: the answer, and every byte of the output
-pub tile-determined : One-outcome 3 encode-tile-kinds.ps encode-tile-kinds.r encode-tile.Post (Tiled × List ℕ) (λ κs x s. (x, s.1.1.1.1.1.0.now))
-tile-determined κs a x y s t p q = cc
+pub tile_determined : One-outcome 3 encode-tile-kinds.ps encode-tile-kinds.r encode-tile.Post (Tiled × List ℕ) (λ κs x s. (x, s.1.1.1.1.1.0.now))
+tile_determined κs a x y s t p q = cc
 
 -- the same calls with a word for the options
-pub word-encode-determined : One-answer 2 word-encode-block-kinds.ps word-encode-block-kinds.r word-encode-block.Post
-word-encode-determined κs a x y s t p q = p ∙ sym q
+pub word_encode_determined : One-answer 2 word-encode-block-kinds.ps word-encode-block-kinds.r word-encode-block.Post
+word_encode_determined κs a x y s t p q = p ∙ sym q
 
-pub word-resend-determined : One-answer 3 word-resend-kinds.ps word-resend-kinds.r word-resend.Post
-word-resend-determined κs a x y s t p q = p ∙ sym q
+pub word_resend_determined : One-answer 3 word-resend-kinds.ps word-resend-kinds.r word-resend.Post
+word_resend_determined κs a x y s t p q = p ∙ sym q
 
-pub word-tile-determined : One-outcome 3 word-encode-tile-kinds.ps word-encode-tile-kinds.r word-encode-tile.Post (Tiled × List ℕ)
+pub word_tile_determined : One-outcome 3 word-encode-tile-kinds.ps word-encode-tile-kinds.r word-encode-tile.Post (Tiled × List ℕ)
     (λ κs x s. (x, s.1.1.1.1.1.0.now))
-word-tile-determined κs a x y s t p q = cc
+word_tile_determined κs a x y s t p q = cc
 
 -- block view: the bytes of the part. Which part it is, where two blocks of a tile are alike, the contract of a slice does not say.
-pub view-determined : One-outcome 1 block-view-kinds.ps block-view-kinds.r Block-view.Post (List ℕ) (λ κs x s. x.now)
-view-determined κs a x y s t p q = p ∙ sym q
+pub view_determined : One-outcome 1 block-view-kinds.ps block-view-kinds.r Block-view.Post (List ℕ) (λ κs x s. x.now)
+view_determined κs a x y s t p q = p ∙ sym q

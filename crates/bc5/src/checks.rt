@@ -1,13 +1,13 @@
 // What each call on two channels refuses, in its order. Each check is BC4's own, of the first channel and then of the second.
 ghost use Rattle.std.specs.Prelude.{◌≡◌, ◌<◌};
 ghost use Rattle.refusal.specs.Refusals.{first_of};
-ghost use Rattle.bc5.specs.Checks.{nanChecks, tileNanChecks, encodeChecks, decodeChecks, errorChecks, resendChecks, tileChecks};
+ghost use Rattle.bc5.specs.Checks.{nan_checks, tile_nan_checks, encode_checks, decode_checks, error_checks, resend_checks, tile_checks};
 
 use bc4::Options;
 use refusal::{Channel, Checked, Fault, Refusal};
 
 fn no_nans(first: &[f32], second: &[f32]) -> Checked
-    ensures { result ≡ first_of (nanChecks first.now second.now) }
+    ensures { result ≡ first_of (nan_checks first.now second.now) }
 {
     let checked = refusal::no_nan_in(Channel::First, first);
     match checked {
@@ -18,7 +18,7 @@ fn no_nans(first: &[f32], second: &[f32]) -> Checked
 
 fn no_tile_nans(first: &[f32], second: &[f32], width: usize) -> Checked
     requires { 0 < width }
-    ensures { result ≡ first_of (tileNanChecks first.now second.now width) }
+    ensures { result ≡ first_of (tile_nan_checks first.now second.now width) }
 {
     let checked = refusal::no_tile_nan_in(Channel::First, first, width);
     match checked {
@@ -28,7 +28,7 @@ fn no_tile_nans(first: &[f32], second: &[f32], width: usize) -> Checked
 }
 
 pub fn encode(first: &[f32], second: &[f32]) -> Checked
-    ensures { result ≡ first_of (encodeChecks first.now second.now) }
+    ensures { result ≡ first_of (encode_checks first.now second.now) }
 {
     if first.len() != 16 {
         return Checked::Refused(Refusal::InChannel(Fault::Count(Channel::First)));
@@ -40,7 +40,7 @@ pub fn encode(first: &[f32], second: &[f32]) -> Checked
 }
 
 pub fn decode(encoded: &[u8]) -> Checked
-    ensures { result ≡ first_of (decodeChecks encoded.now) }
+    ensures { result ≡ first_of (decode_checks encoded.now) }
 {
     if encoded.len() != place::BC5_SIZE {
         return Checked::Refused(Refusal::EncodedLength);
@@ -49,7 +49,7 @@ pub fn decode(encoded: &[u8]) -> Checked
 }
 
 pub fn error(first: &[f32], second: &[f32], encoded: &[u8]) -> Checked
-    ensures { result ≡ first_of (errorChecks first.now second.now encoded.now) }
+    ensures { result ≡ first_of (error_checks first.now second.now encoded.now) }
 {
     if first.len() != 16 {
         return Checked::Refused(Refusal::InChannel(Fault::Count(Channel::First)));
@@ -64,7 +64,7 @@ pub fn error(first: &[f32], second: &[f32], encoded: &[u8]) -> Checked
 }
 
 pub fn resend(first: &[f32], second: &[f32], held: &[u8], o: Options) -> Checked
-    ensures { result ≡ first_of (resendChecks first.now second.now held.now o) }
+    ensures { result ≡ first_of (resend_checks first.now second.now held.now o) }
 {
     if first.len() != 16 {
         return Checked::Refused(Refusal::InChannel(Fault::Count(Channel::First)));
@@ -83,7 +83,7 @@ pub fn resend(first: &[f32], second: &[f32], held: &[u8], o: Options) -> Checked
 
 // `room` is the length of the output.
 pub fn tile(first: &[f32], second: &[f32], width: usize, height: usize, room: usize) -> Checked
-    ensures { result ≡ first_of (tileChecks first.now second.now width height room) }
+    ensures { result ≡ first_of (tile_checks first.now second.now width height room) }
 {
     let checked = refusal::size(width, height);
     match checked {

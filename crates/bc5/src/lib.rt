@@ -2,9 +2,9 @@
 // both channels before it makes either half; each half is made by the function that makes it for `bc4`.
 ghost use Rattle.std.specs.Prelude.{◌≡◌, length};
 ghost use Rattle.refusal.specs.Refusals.{first_of};
-ghost use Rattle.bc4.specs.Calls.{samplesAfter};
-ghost use Rattle.bc5.specs.Checks.{decodeChecks, viewChecks};
-ghost use Rattle.bc5.specs.Calls.{firstHalf, secondHalf, halvesBytes, encodeAnswer, errorAnswer, resendAnswer, tileAnswer, outAfter, view_of};
+ghost use Rattle.bc4.specs.Calls.{samples_after};
+ghost use Rattle.bc5.specs.Checks.{decode_checks, view_checks};
+ghost use Rattle.bc5.specs.Calls.{first_half, second_half, halves_bytes, encode_answer, error_answer, resend_answer, tile_answer, out_after, view_of};
 
 mod checks;
 pub mod word;
@@ -53,7 +53,7 @@ pub enum Resent {
 
 // The sixteen bytes of a block, in order.
 pub fn bytes(block: Halves) -> [u8; 16]
-    ensures { result ≡ halvesBytes block }
+    ensures { result ≡ halves_bytes block }
 {
     let a = bc4::bytes(block.first);
     let b = bc4::bytes(block.second);
@@ -64,7 +64,7 @@ pub fn bytes(block: Halves) -> [u8; 16]
 }
 
 pub fn encode_block(first: &[f32], second: &[f32], o: Options) -> Encoded
-    ensures { result ≡ encodeAnswer first.now second.now o }
+    ensures { result ≡ encode_answer first.now second.now o }
 {
     let checked = checks::encode(first, second);
     match checked {
@@ -87,9 +87,9 @@ pub fn decode_block(
     first: &mut [f32; 16],
     second: &mut [f32; 16],
 ) -> Checked
-    ensures answer { result ≡ first_of (decodeChecks encoded.now) }
-    ensures first { first.new ≡ samplesAfter result (firstHalf encoded.now) snorm first.old }
-    ensures second { second.new ≡ samplesAfter result (secondHalf encoded.now) snorm second.old }
+    ensures answer { result ≡ first_of (decode_checks encoded.now) }
+    ensures first { first.new ≡ samples_after result (first_half encoded.now) snorm first.old }
+    ensures second { second.new ≡ samples_after result (second_half encoded.now) snorm second.old }
 {
     let checked = checks::decode(encoded);
     match checked {
@@ -103,7 +103,7 @@ pub fn decode_block(
 }
 
 pub fn block_error(first: &[f32], second: &[f32], encoded: &[u8], snorm: bool) -> Scored
-    ensures { result ≡ errorAnswer first.now second.now encoded.now snorm }
+    ensures { result ≡ error_answer first.now second.now encoded.now snorm }
 {
     let checked = checks::error(first, second, encoded);
     match checked {
@@ -121,7 +121,7 @@ pub fn block_error(first: &[f32], second: &[f32], encoded: &[u8], snorm: bool) -
 
 // Each half by itself: the fresh one exactly when its block error is strictly below that of the held one.
 pub fn resend(first: &[f32], second: &[f32], held: &[u8], o: Options) -> Resent
-    ensures { result ≡ resendAnswer first.now second.now held.now o }
+    ensures { result ≡ resend_answer first.now second.now held.now o }
 {
     let checked = checks::resend(first, second, held, o);
     match checked {
@@ -146,8 +146,8 @@ pub fn encode_tile(
     o: Options,
     out: &mut [u8],
 ) -> Tiled
-    ensures answer { result ≡ tileAnswer first.now second.now width height (length out.old) }
-    ensures bytes { out.new ≡ outAfter result first.now second.now width height o out.old }
+    ensures answer { result ≡ tile_answer first.now second.now width height (length out.old) }
+    ensures bytes { out.new ≡ out_after result first.now second.now width height o out.old }
 {
     let checked = checks::tile(first, second, width, height, out.len());
     match checked {
@@ -171,7 +171,7 @@ pub fn block_view(tile: &[u8], width: usize, height: usize, column: usize, row: 
 }
 
 pub fn view_refusal(tile: &[u8], width: usize, height: usize, column: usize, row: usize) -> Checked
-    ensures { result ≡ first_of (viewChecks (length tile.now) width height column row) }
+    ensures { result ≡ first_of (view_checks (length tile.now) width height column row) }
 {
     refusal::view_of(place::BC5_SIZE, tile.len(), width, height, column, row)
 }

@@ -1,13 +1,13 @@
 // The calls that take their options as a word of four bytes, which `bc4::word::read` reads. Refusal 8 comes after all others.
 ghost use Rattle.std.specs.Prelude.{◌≡◌, length};
-ghost use Rattle.bc5.specs.Calls.{outAfter};
-ghost use Rattle.bc5.specs.Word.{encodeByWord, resendByWord, tileByWord};
+ghost use Rattle.bc5.specs.Calls.{out_after};
+ghost use Rattle.bc5.specs.Word.{encode_by_word, resend_by_word, tile_by_word};
 
 use crate::{Encoded, Resent, Tiled, checks};
 use bc4::word::Word;
 
 pub fn encode_block(first: &[f32], second: &[f32], w: Word) -> Encoded
-    ensures { result ≡ encodeByWord first.now second.now w }
+    ensures { result ≡ encode_by_word first.now second.now w }
 {
     if w.malformed {
         return Encoded::Refused(refusal::or_malformed(checks::encode(first, second)));
@@ -16,7 +16,7 @@ pub fn encode_block(first: &[f32], second: &[f32], w: Word) -> Encoded
 }
 
 pub fn resend(first: &[f32], second: &[f32], held: &[u8], w: Word) -> Resent
-    ensures { result ≡ resendByWord first.now second.now held.now w }
+    ensures { result ≡ resend_by_word first.now second.now held.now w }
 {
     if w.malformed {
         let checked = checks::resend(first, second, held, w.options);
@@ -33,8 +33,8 @@ pub fn encode_tile(
     w: Word,
     out: &mut [u8],
 ) -> Tiled
-    ensures answer { result ≡ tileByWord first.now second.now width height w (length out.old) }
-    ensures bytes { out.new ≡ outAfter result first.now second.now width height w.options out.old }
+    ensures answer { result ≡ tile_by_word first.now second.now width height w (length out.old) }
+    ensures bytes { out.new ≡ out_after result first.now second.now width height w.options out.old }
 {
     if w.malformed {
         let checked = checks::tile(first, second, width, height, out.len());

@@ -10,31 +10,31 @@ use lib.Dec.{T, ltb}
 use lib.Ieee.{Float, nan, of_bits, of_int, div}
 use Rattle.floats.specs.Arithmetic.{◌⊕◌, ◌⊖◌, ◌⊗◌, ◌⊘◌, squared, whole}
 use Rattle.floats.proofs.Table.{all, at, same, same→eq}
-use Rattle.block.specs.Samples.{pixelAt}
-use Rattle.index_list.specs.Indexes.{index_at, set_at, filledTo}
-use Rattle.index_list.proofs.Laws.{filled-unset}
+use Rattle.block.specs.Samples.{pixel_at}
+use Rattle.index_list.specs.Indexes.{index_at, set_at, filled_to}
+use Rattle.index_list.proofs.Laws.{filled_unset}
 use Rattle.palette.specs.declared.Kind.{Kind}
 use Rattle.palette.specs.declared.Closest.{Closest}
 use Rattle.palette.specs.declared.Indexed.{Indexed}
-use Rattle.palette.specs.Closest.{closestOf}
-use Rattle.palette.proofs.Rules.{closest-lt}
+use Rattle.palette.specs.Closest.{closest_of}
+use Rattle.palette.proofs.Rules.{closest_lt}
 use Rattle.bcn_util.specs.Diffusion.{sixteenths, weights, given, diffused}
-use Rattle.bcn_util.specs.Dither.{ditherStep, ditherTo}
+use Rattle.bcn_util.specs.Dither.{dither_step, dither_to}
 
-and-true : (p : Bool) → (p && true) ≡ p
-and-true true = refl
-and-true false = refl
+and_true : (p : Bool) → (p && true) ≡ p
+and_true true = refl
+and_true false = refl
 
-and-false : (p : Bool) → (p && false) ≡ false
-and-false true = refl
-and-false false = refl
+and_false : (p : Bool) → (p && false) ≡ false
+and_false true = refl
+and_false false = refl
 
 -- ---- one pixel above the last row, and one in it
 module _ (m : List Float) (i : ℕ) (error : Float) where
   abbrev part : ℕ → ℕ → Float
   part row k = error ⊗ get_or weights (4 * row + k) nan
 
-  pub diffused-above : ltb i 12 ≡ true
+  pub diffused_above : ltb i 12 ≡ true
       → diffused m i error
       ≡ given (ltb (i % 4) 3)
       (given true
@@ -45,53 +45,53 @@ module _ (m : List Float) (i : ℕ) (error : Float) where
       (i + 4) (part (i % 4) 2))
       (i + 5) (part (i % 4) 3)
   unfolding diffused
-  diffused-above h = rw (h, and-true (ltb (i % 4) 3), and-true (ltb 0 (i % 4))) refl
+  diffused_above h = rw (h, and_true (ltb (i % 4) 3), and_true (ltb 0 (i % 4))) refl
 
-  pub diffused-last : ltb i 12 ≡ false → diffused m i error ≡ given (ltb (i % 4) 3) m (i + 1) (part 4 0)
+  pub diffused_last : ltb i 12 ≡ false → diffused m i error ≡ given (ltb (i % 4) 3) m (i + 1) (part 4 0)
   unfolding diffused given
-  diffused-last h = rw (h, and-false (ltb (i % 4) 3), and-false (ltb 0 (i % 4))) refl
+  diffused_last h = rw (h, and_false (ltb (i % 4) 3), and_false (ltb 0 (i % 4))) refl
 
 -- ---- the indexes are set in order, so the next one is unset
-abbrev pub indexGiven : (Float → Closest) → List Float → ℕ → ℕ
-indexGiven rule b k = (rule (pixelAt b k ⊕ pixelAt (ditherTo rule b k).map k)).index
+abbrev pub index_given : (Float → Closest) → List Float → ℕ → ℕ
+index_given rule b k = (rule (pixel_at b k ⊕ pixel_at (dither_to rule b k).map k)).index
 
-pub indexes-filled : (rule : Float → Closest) (b : List Float) (n : ℕ) → (ditherTo rule b n).done.indexes.«data» ≡ filledTo (indexGiven rule b) n
-unfolding ditherTo ditherStep filledTo
-indexes-filled rule b zero = refl
-indexes-filled rule b (suc n) = rw (indexes-filled rule b n)
+pub indexes_filled : (rule : Float → Closest) (b : List Float) (n : ℕ) → (dither_to rule b n).done.indexes.«data» ≡ filled_to (index_given rule b) n
+unfolding dither_to dither_step filled_to
+indexes_filled rule b zero = refl
+indexes_filled rule b (suc n) = rw (indexes_filled rule b n)
 
 -- ---- what the loop holds after i pixels
 pub record Reached (kind : Kind) (c0 c1 : Float) (b : List Float) (i : ℕ) (map : List Float) (done : Indexed) : Type 0 where
-  pub map_is : map ≡ (ditherTo (closestOf kind c0 c1) b i).map
-  pub done-is : done ≡ (ditherTo (closestOf kind c0 c1) b i).done
+  pub map_is : map ≡ (dither_to (closest_of kind c0 c1) b i).map
+  pub done_is : done ≡ (dither_to (closest_of kind c0 c1) b i).done
 
 module _ {kind : Kind} {c0 c1 : Float} {b : List Float} {i : ℕ} {map : List Float} {done : Indexed} (r : Reached kind c0 c1 b i map done) where
-  pub reached-unset : index_at done.indexes.«data» i ≡ 0
-  reached-unset =
-      rw (r.done-is, indexes-filled (closestOf kind c0 c1) b i)
-      (filled-unset (indexGiven (closestOf kind c0 c1) b) i (λ k h. closest-lt kind c0 c1 _) i (omega arith))
+  pub reached_unset : index_at done.indexes.«data» i ≡ 0
+  reached_unset =
+      rw (r.done_is, indexes_filled (closest_of kind c0 c1) b i)
+      (filled_unset (index_given (closest_of kind c0 c1) b) i (λ k h. closest_lt kind c0 c1 _) i (omega arith))
 
   -- `error` is the answer's but for its sign
-  pub reached-step : (c : Closest) (error : Float) → c ≡ closestOf kind c0 c1 (pixelAt b i ⊕ pixelAt map i) → squared c.error ≡ squared error
-      → Reached kind c0 c1 b (i + 1) (diffused map i (pixelAt b i ⊕ pixelAt map i ⊖ c.value)) (record { indexes = record { «data» = set_at done.indexes.«data» i c.index }; error = done.error ⊕ squared error })
-  unfolding ditherTo ditherStep
-  reached-step c error e same = rw (add-one, ← same, e, r.map_is, r.done-is) (record { map_is = refl; done-is = refl })
+  pub reached_step : (c : Closest) (error : Float) → c ≡ closest_of kind c0 c1 (pixel_at b i ⊕ pixel_at map i) → squared c.error ≡ squared error
+      → Reached kind c0 c1 b (i + 1) (diffused map i (pixel_at b i ⊕ pixel_at map i ⊖ c.value)) (record { indexes = record { «data» = set_at done.indexes.«data» i c.index }; error = done.error ⊕ squared error })
+  unfolding dither_to dither_step
+  reached_step c error e same = rw (add-one, ← same, e, r.map_is, r.done_is) (record { map_is = refl; done_is = refl })
 
 -- ---- the table
 right : ℕ → Bool
 right k = same (get_or weights k nan) (whole (get_or sixteenths k 0) ⊘ whole 16)
 
-every-right : T (all right 20)
+every_right : T (all right 20)
 unfolding right weights of_bits of_int div
-every-right = tt
+every_right = tt
 
-pub weights-are : (k : ℕ) → k < 20 → get_or weights k nan ≡ whole (get_or sixteenths k 0) ⊘ whole 16
+pub weights_are : (k : ℕ) → k < 20 → get_or weights k nan ≡ whole (get_or sixteenths k 0) ⊘ whole 16
 unfolding right
-weights-are k h = same→eq _ _ (at right 20 every-right k h)
+weights_are k h = same→eq _ _ (at right 20 every_right k h)
 
 -- how much of an error is passed on, in sixteenths: nearly all, three quarters in the last column, half in the last row
-abbrev pub rowSum : ℕ → ℕ
-rowSum r = get_or sixteenths (4 * r) 0 + get_or sixteenths (4 * r + 1) 0 + get_or sixteenths (4 * r + 2) 0 + get_or sixteenths (4 * r + 3) 0
+abbrev pub row_sum : ℕ → ℕ
+row_sum r = get_or sixteenths (4 * r) 0 + get_or sixteenths (4 * r + 1) 0 + get_or sixteenths (4 * r + 2) 0 + get_or sixteenths (4 * r + 3) 0
 
-pub row-sums : (rowSum 0 ≡ 15) × (rowSum 1 ≡ 16) × (rowSum 2 ≡ 16) × (rowSum 3 ≡ 12) × (rowSum 4 ≡ 8)
-row-sums = (refl, refl, refl, refl, refl)
+pub row_sums : (row_sum 0 ≡ 15) × (row_sum 1 ≡ 16) × (row_sum 2 ≡ 16) × (row_sum 3 ≡ 12) × (row_sum 4 ≡ 8)
+row_sums = (refl, refl, refl, refl, refl)

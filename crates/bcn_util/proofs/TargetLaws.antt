@@ -8,22 +8,22 @@ use Rattle.bcn_util.specs.Diffusion.{weights, given, diffused}
 use Rattle.bcn_util.specs.Targets.{served}
 
 module _ (m : List Float) (error : Float) where
-  pub diffused-targets : (i : ℕ) → i < 16 → diffused m i error ≡ served m i error
+  pub diffused_targets : (i : ℕ) → i < 16 → diffused m i error ≡ served m i error
   unfolding diffused given weights of_bits of_int div
-  diffused-targets zero h = refl
-  diffused-targets (suc zero) h = refl
-  diffused-targets (suc (suc zero)) h = refl
-  diffused-targets (suc (suc (suc zero))) h = refl
-  diffused-targets (suc (suc (suc (suc zero)))) h = refl
-  diffused-targets (suc (suc (suc (suc (suc zero))))) h = refl
-  diffused-targets (suc (suc (suc (suc (suc (suc zero)))))) h = refl
-  diffused-targets (suc (suc (suc (suc (suc (suc (suc zero))))))) h = refl
-  diffused-targets (suc (suc (suc (suc (suc (suc (suc (suc zero)))))))) h = refl
-  diffused-targets (suc (suc (suc (suc (suc (suc (suc (suc (suc zero))))))))) h = refl
-  diffused-targets (suc (suc (suc (suc (suc (suc (suc (suc (suc (suc zero)))))))))) h = refl
-  diffused-targets (suc (suc (suc (suc (suc (suc (suc (suc (suc (suc (suc zero))))))))))) h = refl
-  diffused-targets (suc (suc (suc (suc (suc (suc (suc (suc (suc (suc (suc (suc zero)))))))))))) h = refl
-  diffused-targets (suc (suc (suc (suc (suc (suc (suc (suc (suc (suc (suc (suc (suc zero))))))))))))) h = refl
-  diffused-targets (suc (suc (suc (suc (suc (suc (suc (suc (suc (suc (suc (suc (suc (suc zero)))))))))))))) h = refl
-  diffused-targets (suc (suc (suc (suc (suc (suc (suc (suc (suc (suc (suc (suc (suc (suc (suc zero))))))))))))))) h = refl
-  diffused-targets (suc (suc (suc (suc (suc (suc (suc (suc (suc (suc (suc (suc (suc (suc (suc (suc i)))))))))))))))) h = absurd (omega arith)
+  diffused_targets zero h = refl
+  diffused_targets (suc zero) h = refl
+  diffused_targets (suc (suc zero)) h = refl
+  diffused_targets (suc (suc (suc zero))) h = refl
+  diffused_targets (suc (suc (suc (suc zero)))) h = refl
+  diffused_targets (suc (suc (suc (suc (suc zero))))) h = refl
+  diffused_targets (suc (suc (suc (suc (suc (suc zero)))))) h = refl
+  diffused_targets (suc (suc (suc (suc (suc (suc (suc zero))))))) h = refl
+  diffused_targets (suc (suc (suc (suc (suc (suc (suc (suc zero)))))))) h = refl
+  diffused_targets (suc (suc (suc (suc (suc (suc (suc (suc (suc zero))))))))) h = refl
+  diffused_targets (suc (suc (suc (suc (suc (suc (suc (suc (suc (suc zero)))))))))) h = refl
+  diffused_targets (suc (suc (suc (suc (suc (suc (suc (suc (suc (suc (suc zero))))))))))) h = refl
+  diffused_targets (suc (suc (suc (suc (suc (suc (suc (suc (suc (suc (suc (suc zero)))))))))))) h = refl
+  diffused_targets (suc (suc (suc (suc (suc (suc (suc (suc (suc (suc (suc (suc (suc zero))))))))))))) h = refl
+  diffused_targets (suc (suc (suc (suc (suc (suc (suc (suc (suc (suc (suc (suc (suc (suc zero)))))))))))))) h = refl
+  diffused_targets (suc (suc (suc (suc (suc (suc (suc (suc (suc (suc (suc (suc (suc (suc (suc zero))))))))))))))) h = refl
+  diffused_targets (suc (suc (suc (suc (suc (suc (suc (suc (suc (suc (suc (suc (suc (suc (suc (suc i)))))))))))))))) h = absurd (omega arith)

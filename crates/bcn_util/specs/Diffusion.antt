@@ -13,7 +13,7 @@ use Rattle.floats.specs.Arithmetic.{◌⊕◌, ◌⊗◌, bits, f0, half}
 abbrev pub sixteenths : List ℕ
 sixteenths = 7 ∷ 0 ∷ 6 ∷ 2 ∷ 7 ∷ 3 ∷ 5 ∷ 1 ∷ 7 ∷ 3 ∷ 5 ∷ 1 ∷ 0 ∷ 5 ∷ 7 ∷ 0 ∷ 8 ∷ 0 ∷ 0 ∷ 0 ∷ []
 
--- as floats, by their bits; that they are these sixteenths is `weights-are` in proofs/
+-- as floats, by their bits; that they are these sixteenths is `weights_are` in proofs/
 unfoldable pub weights : List Float
 weights =
     bits 0x3ee0_0000 ∷ f0 ∷ bits 0x3ec0_0000 ∷ bits 0x3e00_0000
@@ -24,12 +24,12 @@ weights =
     ∷ []
 
 -- the row of the table for pixel i
-abbrev pub tableRow : ℕ → ℕ
-tableRow i = cond (ltb i 12) (i % 4) 4
+abbrev pub table_row : ℕ → ℕ
+table_row i = cond (ltb i 12) (i % 4) 4
 
 -- the share of the error of pixel i that goes in direction k: 0 right, 1 next left, 2 next middle, 3 next right
 abbrev pub share : ℕ → ℕ → Float
-share i k = get_or weights (4 * tableRow i + k) nan
+share i k = get_or weights (4 * table_row i + k) nan
 
 -- v added to the map at pixel j, where the block has that pixel
 unfoldable pub given : Bool → List Float → ℕ → Float → List Float

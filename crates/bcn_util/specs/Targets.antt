@@ -1,6 +1,6 @@
 -- Where the error of each pixel goes, pixel by pixel, for reading beside document 01, "Encoder steps": dither weights in sixteenths, rows 0 to 2
 -- (right, next-left, next-middle, next-right): column 0: 7,0,6,2; columns 1 and 2: 7,3,5,1; column 3: 0,5,7,0. Row 3: right 8, columns 0 to 2,
--- nothing else. That `diffused` gives exactly these is `diffused-targets` in proofs/.
+-- nothing else. That `diffused` gives exactly these is `diffused_targets` in proofs/.
 use mathlib.Core.List.{List, [], ◌∷◌, foldl}
 use Rattle.std.specs.Prelude.{ℕ, get_or, set, Float}
 use Rattle.std.specs.Float.{nan}

@@ -2,10 +2,10 @@
 ghost use Rattle.std.specs.Prelude.{◌≡◌, true, ◌+◌, ◌*◌, ◌<◌, get_or};
 ghost use Rattle.std.specs.Float.{nan};
 ghost use Rattle.floats.specs.Arithmetic.{◌⊕◌, ◌⊗◌};
-ghost use Rattle.block.specs.Samples.{pixelAt};
-ghost use Rattle.palette.specs.Closest.{closestOf};
+ghost use Rattle.block.specs.Samples.{pixel_at};
+ghost use Rattle.palette.specs.Closest.{closest_of};
 ghost use Rattle.bcn_util.specs.Diffusion.{weights, given, diffused};
-ghost use Rattle.bcn_util.specs.Dither.{blockDither};
+ghost use Rattle.bcn_util.specs.Dither.{block_dither};
 
 use index_list::IndexList;
 use palette::inter4::Inter4Palette;
@@ -74,7 +74,7 @@ pub fn diffuse(m: &mut [f32; 16], w: &[f32; 20], i: usize, error: f32)
 // The sample that a palette is asked about for pixel i.
 fn asked(b: &[f32; 16], map: &[f32; 16], i: usize) -> f32
     requires { i < 16 }
-    ensures { result ≡ pixelAt b.now i ⊕ pixelAt map.now i }
+    ensures { result ≡ pixel_at b.now i ⊕ pixel_at map.now i }
 {
     b[i] + map[i]
 }
@@ -82,7 +82,7 @@ fn asked(b: &[f32; 16], map: &[f32; 16], i: usize) -> f32
 // Both palettes are made and one is used. All that a turn does stands in the arms, so that the compiler makes a loop of each: with a part of it in
 // common, or in a function of its own, it does not.
 pub fn dither(kind: Kind, b: &[f32; 16], c0: f32, c1: f32) -> Indexed
-    ensures { result ≡ blockDither (closestOf kind c0 c1) b.now }
+    ensures { result ≡ block_dither (closest_of kind c0 c1) b.now }
 {
     let six = Inter6Palette::new(c0, c1);
     let four = Inter4Palette::new(c0, c1);

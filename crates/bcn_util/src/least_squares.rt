@@ -1,6 +1,6 @@
 // least_squares_weights_f32_vec4.
 ghost use Rattle.std.specs.Prelude.{◌≡◌};
-ghost use Rattle.bcn_util.specs.LeastSquares.{dotInPairs, complement as complementOf, fromD, orMean, matrixOf, line as line_of, leastSquares};
+ghost use Rattle.bcn_util.specs.LeastSquares.{dot_in_pairs, complement as complement_of, from_d, or_mean, matrix_of, line as line_of, least_squares};
 
 use floats::Pair;
 
@@ -25,7 +25,7 @@ pub enum Inverse {
 }
 
 pub fn from_d(a: f32, b: f32, c: f32) -> Inverse
-    ensures { result ≡ fromD a b c }
+    ensures { result ≡ from_d a b c }
 {
     let det = a * c - b * b;
     if floats::abs(det) < EPSILON {
@@ -44,7 +44,7 @@ pub fn from_d(a: f32, b: f32, c: f32) -> Inverse
 }
 
 pub fn or_mean(i: Inverse) -> WeightMatrix
-    ensures { result ≡ orMean i }
+    ensures { result ≡ or_mean i }
 {
     match i {
         Inverse::Matrix(m) => m,
@@ -58,7 +58,7 @@ pub fn or_mean(i: Inverse) -> WeightMatrix
 }
 
 fn dot_in_pairs(u: &[f32; 16], v: &[f32; 16]) -> f32
-    ensures { result ≡ dotInPairs u.now v.now }
+    ensures { result ≡ dot_in_pairs u.now v.now }
 {
     let mut e = [0.0f32; 16];
     for i in 0..16usize {
@@ -68,7 +68,7 @@ fn dot_in_pairs(u: &[f32; 16], v: &[f32; 16]) -> f32
 }
 
 fn complement(w: &[f32; 16]) -> [f32; 16]
-    ensures { result ≡ complementOf w.now }
+    ensures { result ≡ complement_of w.now }
 {
     let mut v = [0.0f32; 16];
     for i in 0..16usize {
@@ -78,7 +78,7 @@ fn complement(w: &[f32; 16]) -> [f32; 16]
 }
 
 fn matrix(w: &[f32; 16]) -> WeightMatrix
-    ensures { result ≡ matrixOf w.now }
+    ensures { result ≡ matrix_of w.now }
 {
     let v = complement(w);
     or_mean(from_d(
@@ -100,7 +100,7 @@ fn line(e: f32, d: f32, w: &[f32; 16]) -> [f32; 16]
 
 // The end of weight 1 first.
 pub fn least_squares(colors: &[f32; 16], w: &[f32; 16]) -> Pair
-    ensures { result ≡ leastSquares colors.now w.now }
+    ensures { result ≡ least_squares colors.now w.now }
 {
     let m = matrix(w);
     let g0 = line(m.e01, m.e00_01, w);

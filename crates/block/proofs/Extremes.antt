@@ -6,11 +6,11 @@ use Prim.Native.Nat.{ℕ, ◌+◌, ◌<◌}
 use native.Mathlib.Omega.{arith}
 use lib.Ieee.{Float, lt, le, is_nan}
 use Rattle.floats.specs.Arithmetic.{f0, f1}
-use Rattle.floats.proofs.Order.{le_of_lt, le-of-not, le_refl, le_trans, le_left}
-use Rattle.block.specs.Samples.{pixelAt}
-use Rattle.block.specs.Orders.{downLane, element}
+use Rattle.floats.proofs.Order.{le_of_lt, le_of_not, le_refl, le_trans, le_left}
+use Rattle.block.specs.Samples.{pixel_at}
+use Rattle.block.specs.Orders.{down_lane, element}
 use Rattle.block.specs.Block.{InUnit, smallest, largest}
-use Rattle.block.proofs.Lanes.{Down, each-of-four, all_lanes}
+use Rattle.block.proofs.Lanes.{Down, each_of_four, all_lanes}
 
 abbrev Real : Float → Type 0
 Real x = is_nan x ≡ false
@@ -28,11 +28,11 @@ module _ (test : Float → Float → Bool) where
       go false = q
 
   -- what holds of each sample holds of the one that is picked
-  over-all : (g : ℕ → Float) (Q : Float → Type 0) → ((i : ℕ) → i < 16 → Q (g i)) → Q (element op (downLane op g))
+  over_all : (g : ℕ → Float) (Q : Float → Type 0) → ((i : ℕ) → i < 16 → Q (g i)) → Q (element op (down_lane op g))
   unfolding element
-  over-all g Q each = picks Q _ _ (lane 0 (omega arith)) (picks Q _ _ (lane 1 (omega arith)) (picks Q _ _ (lane 2 (omega arith)) (lane 3 (omega arith))))
+  over_all g Q each = picks Q _ _ (lane 0 (omega arith)) (picks Q _ _ (lane 1 (omega arith)) (picks Q _ _ (lane 2 (omega arith)) (lane 3 (omega arith))))
     where
-      lane : (j : ℕ) → j < 4 → Q (downLane op g j)
+      lane : (j : ℕ) → j < 4 → Q (down_lane op g j)
       lane j h = picks Q _ _ (picks Q _ _ (picks Q _ _ (each j (omega arith)) (each (j + 4) (omega arith))) (each (j + 8) (omega arith))) (each (j + 12) (omega arith))
 
   -- where the test is an order off NaN, the one that is picked bounds all
@@ -61,44 +61,44 @@ module _ (test : Float → Float → Bool) where
         let on = trans _ _ (op z w) r.2 q.2 in
         (r.1, trans _ _ y r.2 q.1, trans _ _ z on p.1, trans _ _ w on p.2)
 
-    bounds-all : (g : ℕ → Float) → ((i : ℕ) → i < 16 → Real (g i)) → (i : ℕ) → i < 16 → R (element op (downLane op g)) (g i)
+    bounds_all : (g : ℕ → Float) → ((i : ℕ) → i < 16 → Real (g i)) → (i : ℕ) → i < 16 → R (element op (down_lane op g)) (g i)
     unfolding element
-    bounds-all g real = all_lanes _ (λ j h. let t = over j h in let d = (lane j h).1 in (trans _ _ _ t d.0, trans _ _ _ t d.1, trans _ _ _ t d.2, trans _ _ _ t d.3))
+    bounds_all g real = all_lanes _ (λ j h. let t = over j h in let d = (lane j h).1 in (trans _ _ _ t d.0, trans _ _ _ t d.1, trans _ _ _ t d.2, trans _ _ _ t d.3))
       where
-        lane : (j : ℕ) → j < 4 → Real (downLane op g j) × Down (λ i. R (downLane op g j) (g i)) j
+        lane : (j : ℕ) → j < 4 → Real (down_lane op g j) × Down (λ i. R (down_lane op g j) (g i)) j
         lane j h = down (g j) (g (j + 4)) (g (j + 8)) (g (j + 12)) (real j (omega arith)) (real (j + 4) (omega arith)) (real (j + 8) (omega arith)) (real (j + 12) (omega arith))
 
-        over : (j : ℕ) → j < 4 → R (element op (downLane op g)) (downLane op g j)
-        over = each-of-four _ (across (downLane op g 0) (downLane op g 1) (downLane op g 2) (downLane op g 3) (lane 0 (omega arith)).0 (lane 1 (omega arith)).0 (lane 2 (omega arith)).0 (lane 3 (omega arith)).0)
+        over : (j : ℕ) → j < 4 → R (element op (down_lane op g)) (down_lane op g j)
+        over = each_of_four _ (across (down_lane op g 0) (down_lane op g 1) (down_lane op g 2) (down_lane op g 3) (lane 0 (omega arith)).0 (lane 1 (omega arith)).0 (lane 2 (omega arith)).0 (lane 3 (omega arith)).0)
 
 -- ---- the smallest and the largest
-real : (b : List Float) → InUnit b → (i : ℕ) → i < 16 → Real (pixelAt b i)
-real b u i h = le_left (pixelAt b i) f1 (u.to-1 i h)
+real : (b : List Float) → InUnit b → (i : ℕ) → i < 16 → Real (pixel_at b i)
+real b u i h = le_left (pixel_at b i) f1 (u.to_1 i h)
 
 -- No sample is below the smallest or above the largest,
-pub smallest-le : (b : List Float) → InUnit b → (i : ℕ) → i < 16 → le (smallest b) (pixelAt b i) ≡ true
+pub smallest_le : (b : List Float) → InUnit b → (i : ℕ) → i < 16 → le (smallest b) (pixel_at b i) ≡ true
 unfolding smallest
-smallest-le b u = bounds-all lt (λ x y. le x y ≡ true) le_refl le_trans le_of_lt (λ x y X Y. le-of-not y x Y X) (pixelAt b) (real b u)
+smallest_le b u = bounds_all lt (λ x y. le x y ≡ true) le_refl le_trans le_of_lt (λ x y X Y. le_of_not y x Y X) (pixel_at b) (real b u)
 
-pub largest-ge : (b : List Float) → InUnit b → (i : ℕ) → i < 16 → le (pixelAt b i) (largest b) ≡ true
+pub largest_ge : (b : List Float) → InUnit b → (i : ℕ) → i < 16 → le (pixel_at b i) (largest b) ≡ true
 unfolding largest
-largest-ge b u =
-    bounds-all (λ x y. lt y x) (λ x y. le y x ≡ true) le_refl (λ x y z p q. le_trans z y x q p) (λ x y. le_of_lt y x) le-of-not (pixelAt b) (real b u)
+largest_ge b u =
+    bounds_all (λ x y. lt y x) (λ x y. le y x ≡ true) le_refl (λ x y z p q. le_trans z y x q p) (λ x y. le_of_lt y x) le_of_not (pixel_at b) (real b u)
 
 -- and each of the two is one of the samples: what holds of all of them holds of it.
-pub smallest-sample : (b : List Float) (Q : Float → Type 0) → ((i : ℕ) → i < 16 → Q (pixelAt b i)) → Q (smallest b)
+pub smallest_sample : (b : List Float) (Q : Float → Type 0) → ((i : ℕ) → i < 16 → Q (pixel_at b i)) → Q (smallest b)
 unfolding smallest
-smallest-sample b = over-all lt (pixelAt b)
+smallest_sample b = over_all lt (pixel_at b)
 
-pub largest-sample : (b : List Float) (Q : Float → Type 0) → ((i : ℕ) → i < 16 → Q (pixelAt b i)) → Q (largest b)
+pub largest_sample : (b : List Float) (Q : Float → Type 0) → ((i : ℕ) → i < 16 → Q (pixel_at b i)) → Q (largest b)
 unfolding largest
-largest-sample b = over-all (λ x y. lt y x) (pixelAt b)
+largest_sample b = over_all (λ x y. lt y x) (pixel_at b)
 
 -- so of samples in 0..1 both are in 0..1
-pub extremes-unit : (b : List Float) → InUnit b → (le f0 (smallest b) ≡ true) × (le (smallest b) f1 ≡ true) × (le f0 (largest b) ≡ true) × (le (largest b) f1 ≡ true)
-extremes-unit b u = (
-  smallest-sample b (λ x. le f0 x ≡ true) u.from-0,
-  smallest-sample b (λ x. le x f1 ≡ true) u.to-1,
-  largest-sample b (λ x. le f0 x ≡ true) u.from-0,
-  largest-sample b (λ x. le x f1 ≡ true) u.to-1,
+pub extremes_unit : (b : List Float) → InUnit b → (le f0 (smallest b) ≡ true) × (le (smallest b) f1 ≡ true) × (le f0 (largest b) ≡ true) × (le (largest b) f1 ≡ true)
+extremes_unit b u = (
+  smallest_sample b (λ x. le f0 x ≡ true) u.from_0_lem,
+  smallest_sample b (λ x. le x f1 ≡ true) u.to_1,
+  largest_sample b (λ x. le f0 x ≡ true) u.from_0_lem,
+  largest_sample b (λ x. le x f1 ≡ true) u.to_1,
 )

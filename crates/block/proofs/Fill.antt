@@ -10,23 +10,23 @@ use borrow.Author.Count.{below_more}
 use Rattle.block.specs.Samples.{tabulate}
 
 module _ {A : Type 0} where
-  pub length-tabulate : (f : ℕ → A) (i n : ℕ) → length (tabulate f i n) ≡ n
+  pub length_tabulate : (f : ℕ → A) (i n : ℕ) → length (tabulate f i n) ≡ n
   unfolding tabulate
-  length-tabulate f i zero = refl
-  length-tabulate f i (suc n) = ap suc (length-tabulate f (suc i) n)
+  length_tabulate f i zero = refl
+  length_tabulate f i (suc n) = ap suc (length_tabulate f (suc i) n)
 
-  getD-from : (f : ℕ → A) (z : A) (i n k : ℕ) → k < n → get_or (tabulate f i n) k z ≡ f (i + k)
+  get_d_from : (f : ℕ → A) (z : A) (i n k : ℕ) → k < n → get_or (tabulate f i n) k z ≡ f (i + k)
   unfolding tabulate
-  getD-from f z i zero k h = absurd (omega arith)
-  getD-from f z i (suc n) zero h = ap f (sym (add-zero i))
-  getD-from f z i (suc n) (suc k) h = getD-from f z (suc i) n k (omega arith) ∙ ap f (suc-add i k ∙ sym (add-suc i k))
+  get_d_from f z i zero k h = absurd (omega arith)
+  get_d_from f z i (suc n) zero h = ap f (sym (add-zero i))
+  get_d_from f z i (suc n) (suc k) h = get_d_from f z (suc i) n k (omega arith) ∙ ap f (suc-add i k ∙ sym (add-suc i k))
 
   pub get_d_tabulate : (f : ℕ → A) (z : A) {n k : ℕ} → k < n → get_or (tabulate f 0 n) k z ≡ f k
-  get_d_tabulate f z {n} {k} h = getD-from f z 0 n k h ∙ ap f (zero-add k)
+  get_d_tabulate f z {n} {k} h = get_d_from f z 0 n k h ∙ ap f (zero-add k)
 
   pub tabulated : (z : A) (f : ℕ → A) {n : ℕ} (out : List A) → length out ≡ n → ((k : ℕ) → k < n → get_or out k z ≡ f k) → out ≡ tabulate f 0 n
   tabulated z f {n} out e each =
-      ext_get_or z out (tabulate f 0 n) (e ∙ sym (length-tabulate f 0 n)) (λ k h. let l : k < n = omega arith in each k l ∙ sym (get_d_tabulate f z l))
+      ext_get_or z out (tabulate f 0 n) (e ∙ sym (length_tabulate f 0 n)) (λ k h. let l : k < n = omega arith in each k l ∙ sym (get_d_tabulate f z l))
 
   -- out has n elements, of which the first i are f's; z is what a read past the end gives
   pub record Filled (z : A) (f : ℕ → A) (n : ℕ) (out : List A) (i : ℕ) : Type 0 where

@@ -1,9 +1,9 @@
 // bc4.rs: Block. The Rust's four Vec4 are sixteen floats here, pixel i in lane i % 4: a loop over them vectorises.
 ghost use Rattle.std.specs.Prelude.{◌≡◌, ◌<◌};
 ghost use Rattle.floats.specs.Arithmetic.{◌⊕◌, squared, f0, f1};
-ghost use Rattle.block.specs.Samples.{pixelAt};
-ghost use Rattle.block.specs.Orders.{downLane, downFrom, sumInOrder, sumInPairs, rowDot, sumOfSquares};
-ghost use Rattle.block.specs.Block.{entered, minMax, minMaxWithThreshold, mean as meanOf, spanned as spannedOf, alone, counted};
+ghost use Rattle.block.specs.Samples.{pixel_at};
+ghost use Rattle.block.specs.Orders.{down_lane, down_from, sum_in_order, sum_in_pairs, row_dot, sum_of_squares};
+ghost use Rattle.block.specs.Block.{entered, min_max, min_max_with_threshold, mean as mean_of, spanned as spanned_of, alone, counted};
 
 use floats::Pair;
 
@@ -21,20 +21,20 @@ pub fn from_raw(samples: &[f32; 16]) -> [f32; 16]
 
 // The largest first: in the other order the compiler takes the two for a vector, and the scan with a threshold gets longer.
 fn spanned(a: Pair, b: Pair) -> Pair
-    ensures { result ≡ spannedOf a b }
+    ensures { result ≡ spanned_of a b }
 {
     let largest = floats::lane_max(a.1, b.1);
     Pair(floats::lane_min(a.0, b.0), largest)
 }
 
 fn across(x: Pair, y: Pair, z: Pair, w: Pair) -> Pair
-    ensures { result ≡ spannedOf x (spannedOf y (spannedOf z w)) }
+    ensures { result ≡ spanned_of x (spanned_of y (spanned_of z w)) }
 {
     spanned(x, spanned(y, spanned(z, w)))
 }
 
 fn down(x: f32, y: f32, z: f32, w: f32) -> Pair
-    ensures { result ≡ spannedOf (spannedOf (spannedOf (alone x) (alone y)) (alone z)) (alone w) }
+    ensures { result ≡ spanned_of (spanned_of (spanned_of (alone x) (alone y)) (alone z)) (alone w) }
 {
     spanned(
         spanned(spanned(Pair(x, x), Pair(y, y)), Pair(z, z)),
@@ -44,13 +44,13 @@ fn down(x: f32, y: f32, z: f32, w: f32) -> Pair
 
 fn lane(b: &[f32; 16], j: usize) -> Pair
     requires { j < 4 }
-    ensures { result ≡ downLane spannedOf (λ i. alone (pixelAt b.now i)) j }
+    ensures { result ≡ down_lane spanned_of (λ i. alone (pixel_at b.now i)) j }
 {
     down(b[j], b[j + 4], b[j + 8], b[j + 12])
 }
 
 pub fn min_max(b: &[f32; 16]) -> Pair
-    ensures { result ≡ minMax b.now }
+    ensures { result ≡ min_max b.now }
 {
     across(lane(b, 0), lane(b, 1), lane(b, 2), lane(b, 3))
 }
@@ -58,7 +58,7 @@ pub fn min_max(b: &[f32; 16]) -> Pair
 // ---- with a threshold
 
 fn step(threshold: f32, m: Pair, x: f32) -> Pair
-    ensures { result ≡ spannedOf m (counted threshold x) }
+    ensures { result ≡ spanned_of m (counted threshold x) }
 {
     spanned(
         m,
@@ -70,7 +70,7 @@ fn step(threshold: f32, m: Pair, x: f32) -> Pair
 }
 
 fn down_within(threshold: f32, x: f32, y: f32, z: f32, w: f32) -> Pair
-    ensures { let c = counted threshold in result ≡ spannedOf (spannedOf (spannedOf (spannedOf (record { 0 = f1; 1 = f0 }) (c x)) (c y)) (c z)) (c w) }
+    ensures { let c = counted threshold in result ≡ spanned_of (spanned_of (spanned_of (spanned_of (record { 0 = f1; 1 = f0 }) (c x)) (c y)) (c z)) (c w) }
 {
     let upper = step(threshold, step(threshold, Pair(1.0, 0.0), x), y);
     step(threshold, step(threshold, upper, z), w)
@@ -78,14 +78,14 @@ fn down_within(threshold: f32, x: f32, y: f32, z: f32, w: f32) -> Pair
 
 fn lane_within(b: &[f32; 16], threshold: f32, j: usize) -> Pair
     requires { j < 4 }
-    ensures { result ≡ downFrom spannedOf (record { 0 = f1; 1 = f0 }) (λ i. counted threshold (pixelAt b.now i)) j }
+    ensures { result ≡ down_from spanned_of (record { 0 = f1; 1 = f0 }) (λ i. counted threshold (pixel_at b.now i)) j }
 {
     down_within(threshold, b[j], b[j + 4], b[j + 8], b[j + 12])
 }
 
 // Of the values in [threshold, 1 - threshold].
 pub fn min_max_with_threshold(b: &[f32; 16], threshold: f32) -> Pair
-    ensures { result ≡ minMaxWithThreshold b.now threshold }
+    ensures { result ≡ min_max_with_threshold b.now threshold }
 {
     across(
         lane_within(b, threshold, 0),
@@ -98,7 +98,7 @@ pub fn min_max_with_threshold(b: &[f32; 16], threshold: f32) -> Pair
 // ---- sums
 
 pub fn sum_in_order(e: &[f32; 16]) -> f32
-    ensures { result ≡ sumInOrder e.now }
+    ensures { result ≡ sum_in_order e.now }
 {
     let x = e[0] + e[4] + e[8] + e[12];
     let y = e[1] + e[5] + e[9] + e[13];
@@ -108,7 +108,7 @@ pub fn sum_in_order(e: &[f32; 16]) -> f32
 }
 
 pub fn sum_in_pairs(e: &[f32; 16]) -> f32
-    ensures { result ≡ sumInPairs e.now }
+    ensures { result ≡ sum_in_pairs e.now }
 {
     let x = e[0] + e[4] + e[8] + e[12];
     let y = e[1] + e[5] + e[9] + e[13];
@@ -125,19 +125,19 @@ fn four_squares(x: f32, y: f32, z: f32, w: f32) -> f32
 
 fn row_dot(e: &[f32; 16], i: usize) -> f32
     requires { i < 4 }
-    ensures { result ≡ rowDot e.now i }
+    ensures { result ≡ row_dot e.now i }
 {
     four_squares(e[4 * i], e[4 * i + 1], e[4 * i + 2], e[4 * i + 3])
 }
 
 pub fn sum_of_squares(e: &[f32; 16]) -> f32
-    ensures { result ≡ sumOfSquares e.now }
+    ensures { result ≡ sum_of_squares e.now }
 {
     0.0 + row_dot(e, 0) + row_dot(e, 1) + row_dot(e, 2) + row_dot(e, 3)
 }
 
 pub fn mean(b: &[f32; 16]) -> f32
-    ensures { result ≡ meanOf b.now }
+    ensures { result ≡ mean_of b.now }
 {
     sum_in_pairs(b) * 0.0625
 }

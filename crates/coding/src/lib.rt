@@ -1,6 +1,6 @@
 // What both compressions end with: palette, indexes, bytes.
 ghost use Rattle.std.specs.Prelude.{◌≡◌, cond};
-ghost use Rattle.coding.specs.Coding.{smaller as smallerOf, laidOut, ended as ended_of};
+ghost use Rattle.coding.specs.Coding.{smaller as smaller_of, laid_out, ended as ended_of};
 
 use end_points::EndPoints;
 use palette::inter4::Inter4Palette;
@@ -21,13 +21,13 @@ fn pick(t: bool, a: Coded, b: Coded) -> Coded
 }
 
 pub fn smaller(best: Coded, next: Coded) -> Coded
-    ensures { result ≡ smallerOf best next }
+    ensures { result ≡ smaller_of best next }
 {
     pick(next.error < best.error, next, best)
 }
 
 fn laid_out(e: EndPoints, x: Indexed) -> Coded
-    ensures { result ≡ laidOut e x }
+    ensures { result ≡ laid_out e x }
 {
     let list = x.indexes;
     Coded {

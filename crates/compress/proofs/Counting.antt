@@ -9,7 +9,7 @@ use native.Mathlib.Omega.{arith}
 use lib.Ieee.{Float, le, is_nan}
 use Rattle.floats.proofs.Tests.{clash, either}
 use Rattle.floats.proofs.Order.{le_left, le_right, le_of_lt, le_refl, le_total, le_trans}
-use Rattle.block.specs.Samples.{pixelAt}
+use Rattle.block.specs.Samples.{pixel_at}
 use Rattle.compress.specs.Sorted.{count_to}
 
 -- what holds below n and at n holds below n + 1
@@ -25,99 +25,99 @@ one_more m n false false h f = omega arith
 module _ (b : List Float) where
   -- y counts each of the first n samples that x counts
   abbrev pub Covers : Float → Float → ℕ → Type 0
-  Covers y x n = (i : ℕ) → i < n → le (pixelAt b i) x ≡ true → le (pixelAt b i) y ≡ true
+  Covers y x n = (i : ℕ) → i < n → le (pixel_at b i) x ≡ true → le (pixel_at b i) y ≡ true
 
-  pub count-mono : (x y : Float) (n : ℕ) → Covers y x n → count_to b x n ≤ count_to b y n
+  pub count_mono : (x y : Float) (n : ℕ) → Covers y x n → count_to b x n ≤ count_to b y n
   unfolding count_to
-  count-mono x y zero u = omega arith
-  count-mono x y (suc n) u =
-      one_more (count_to b x n) (count_to b y n) (le (pixelAt b n) x) (le (pixelAt b n) y)
-      (count-mono x y n (λ i h. u i (omega arith))) (u n (omega arith))
+  count_mono x y zero u = omega arith
+  count_mono x y (suc n) u =
+      one_more (count_to b x n) (count_to b y n) (le (pixel_at b n) x) (le (pixel_at b n) y)
+      (count_mono x y n (λ i h. u i (omega arith))) (u n (omega arith))
 
   -- more, where y counts one that x does not
-  pub count-lt : (x y : Float) (n : ℕ) → Covers y x n → (i : ℕ) → i < n → le (pixelAt b i) x ≡ false → le (pixelAt b i) y ≡ true
+  pub count_lt : (x y : Float) (n : ℕ) → Covers y x n → (i : ℕ) → i < n → le (pixel_at b i) x ≡ false → le (pixel_at b i) y ≡ true
       → count_to b x n < count_to b y n
   unfolding count_to
-  count-lt x y zero u i h p q = absurd (omega arith)
-  count-lt x y (suc n) u i h p q =
+  count_lt x y zero u i h p q = absurd (omega arith)
+  count_lt x y (suc n) u i h p q =
       let less : Covers y x n = λ j l. u j (omega arith) in
       dite (dec_lt i n)
       (λ l.
-      let h : suc (count_to b x n) ≤ count_to b y n = count-lt x y n less i l p q in
-      omega (arith, one_more (suc (count_to b x n)) (count_to b y n) (le (pixelAt b n) x) (le (pixelAt b n) y) h (u n (omega arith))))
-      (λ l. let e : i ≡ n = omega arith in rw (rw e at p, rw e at q) (omega (arith, count-mono x y n less)))
+      let h : suc (count_to b x n) ≤ count_to b y n = count_lt x y n less i l p q in
+      omega (arith, one_more (suc (count_to b x n)) (count_to b y n) (le (pixel_at b n) x) (le (pixel_at b n) y) h (u n (omega arith))))
+      (λ l. let e : i ≡ n = omega arith in rw (rw e at p, rw e at q) (omega (arith, count_mono x y n less)))
 
   -- one is enough for a count above 0
-  pub count-some : (y : Float) (n i : ℕ) → i < n → le (pixelAt b i) y ≡ true → 0 < count_to b y n
+  pub count_some : (y : Float) (n i : ℕ) → i < n → le (pixel_at b i) y ≡ true → 0 < count_to b y n
   unfolding count_to
-  count-some y zero i h e = absurd (omega arith)
-  count-some y (suc n) i h e =
+  count_some y zero i h e = absurd (omega arith)
+  count_some y (suc n) i h e =
       dite (dec_lt i n)
-      (λ l. omega (arith, count-some y n i l e))
+      (λ l. omega (arith, count_some y n i l e))
       (λ l. let g : i ≡ n = omega arith in rw (rw g at e) (omega arith))
 
   abbrev pub None : Float → ℕ → Type 0
-  None x n = (i : ℕ) → i < n → le (pixelAt b i) x ≡ false
+  None x n = (i : ℕ) → i < n → le (pixel_at b i) x ≡ false
 
   pub count_none : (x : Float) (n : ℕ) → None x n → count_to b x n ≡ 0
   unfolding count_to
   count_none x zero f = refl
   count_none x (suc n) f = rw (f n (omega arith), count_none x n (λ i h. f i (omega arith)))
 
-  pub count-all : (x : Float) (n : ℕ) → ((i : ℕ) → i < n → le (pixelAt b i) x ≡ true) → count_to b x n ≡ n
+  pub count_all : (x : Float) (n : ℕ) → ((i : ℕ) → i < n → le (pixel_at b i) x ≡ true) → count_to b x n ≡ n
   unfolding count_to
-  count-all x zero f = refl
-  count-all x (suc n) f = rw (f n (omega arith), count-all x n (λ i h. f i (omega arith))) (omega arith)
+  count_all x zero f = refl
+  count_all x (suc n) f = rw (f n (omega arith), count_all x n (λ i h. f i (omega arith))) (omega arith)
 
-  pub count-le : (x : Float) (n : ℕ) → count_to b x n ≤ n
+  pub count_le : (x : Float) (n : ℕ) → count_to b x n ≤ n
   unfolding count_to
-  count-le x zero = omega arith
-  count-le x (suc n) = go (le (pixelAt b n) x) (count-le x n)
+  count_le x zero = omega arith
+  count_le x (suc n) = go (le (pixel_at b n) x) (count_le x n)
     where
       go : (t : Bool) → count_to b x n ≤ n → count_to b x n + cond t 1 0 ≤ suc n
       go true h = omega arith
       go false h = omega arith
 
   -- what a sample is not above is no NaN
-  pub count-real : (x : Float) (n : ℕ) → 0 < count_to b x n → is_nan x ≡ false
-  count-real x n h = ⊎_elim (λ e. absurd (omega (arith, count_none x n (λ i l. under e i)))) (λ e. e) (either (is_nan x))
+  pub count_real : (x : Float) (n : ℕ) → 0 < count_to b x n → is_nan x ≡ false
+  count_real x n h = ⊎_elim (λ e. absurd (omega (arith, count_none x n (λ i l. under e i)))) (λ e. e) (either (is_nan x))
     where
-      under : is_nan x ≡ true → (i : ℕ) → le (pixelAt b i) x ≡ false
-      under e i = ⊎_elim (λ h. clash e (le_right (pixelAt b i) x h)) (λ h. h) (either (le (pixelAt b i) x))
+      under : is_nan x ≡ true → (i : ℕ) → le (pixel_at b i) x ≡ false
+      under e i = ⊎_elim (λ h. clash e (le_right (pixel_at b i) x h)) (λ h. h) (either (le (pixel_at b i) x))
 
   -- ---- of the first n none is not above x, or there is a largest of those
   pub record Top (x : Float) (n : ℕ) : Type 0 where
     pub at : ℕ
     pub one : at < n
-    pub counted : le (pixelAt b at) x ≡ true
-    pub largest : Covers (pixelAt b at) x n
+    pub counted : le (pixel_at b at) x ≡ true
+    pub largest : Covers (pixel_at b at) x n
 
-  grown : (x : Float) (n i : ℕ) → i < suc n → le (pixelAt b i) x ≡ true → Covers (pixelAt b i) x n
-      → (le (pixelAt b n) x ≡ true → le (pixelAt b n) (pixelAt b i) ≡ true) → Top x (suc n)
+  grown : (x : Float) (n i : ℕ) → i < suc n → le (pixel_at b i) x ≡ true → Covers (pixel_at b i) x n
+      → (le (pixel_at b n) x ≡ true → le (pixel_at b n) (pixel_at b i) ≡ true) → Top x (suc n)
   grown x n i l e c h = record {
     at = i;
     one = l;
     counted = e;
-    largest = up_to (λ j. le (pixelAt b j) x ≡ true → le (pixelAt b j) (pixelAt b i) ≡ true) n c h;
+    largest = up_to (λ j. le (pixel_at b j) x ≡ true → le (pixel_at b j) (pixel_at b i) ≡ true) n c h;
   }
 
   pub top : (x : Float) (n : ℕ) → None x n ⊎ Top x n
   top x zero = inl (λ i h. absurd (omega arith))
-  top x (suc n) = go (le (pixelAt b n) x) refl (top x n)
+  top x (suc n) = go (le (pixel_at b n) x) refl (top x n)
     where
-      last : le (pixelAt b n) x ≡ true → Covers (pixelAt b n) x n → Top x (suc n)
-      last e c = grown x n n (omega arith) e c (λ k. le_refl (pixelAt b n) (le_left (pixelAt b n) x k))
+      last : le (pixel_at b n) x ≡ true → Covers (pixel_at b n) x n → Top x (suc n)
+      last e c = grown x n n (omega arith) e c (λ k. le_refl (pixel_at b n) (le_left (pixel_at b n) x k))
 
-      kept : (t : Top x n) → (le (pixelAt b n) x ≡ true → le (pixelAt b n) (pixelAt b t.at) ≡ true) → Top x (suc n)
+      kept : (t : Top x n) → (le (pixel_at b n) x ≡ true → le (pixel_at b n) (pixel_at b t.at) ≡ true) → Top x (suc n)
       kept t h = let l : t.at < n = t.one in grown x n t.at (omega arith) t.counted t.largest h
 
-      go : (t : Bool) → le (pixelAt b n) x ≡ t → None x n ⊎ Top x n → None x (suc n) ⊎ Top x (suc n)
-      go false e (inl f) = inl (up_to (λ i. le (pixelAt b i) x ≡ false) n f e)
+      go : (t : Bool) → le (pixel_at b n) x ≡ t → None x n ⊎ Top x n → None x (suc n) ⊎ Top x (suc n)
+      go false e (inl f) = inl (up_to (λ i. le (pixel_at b i) x ≡ false) n f e)
       go false e (inr t) = inr (kept t (λ k. clash k e))
       go true e (inl f) = inr (last e (λ i h k. clash k (f i h)))
       go true e (inr t) =
           ⊎_elim (λ h. inr (kept t (λ k. h)))
           (λ h.
-          let above : le (pixelAt b t.at) (pixelAt b n) ≡ true = le_of_lt (pixelAt b t.at) (pixelAt b n) h in
-          inr (last e (λ i j k. le_trans (pixelAt b i) (pixelAt b t.at) (pixelAt b n) (t.largest i j k) above)))
-          (le_total (pixelAt b n) (pixelAt b t.at) (le_left (pixelAt b n) x e) (le_left (pixelAt b t.at) x t.counted))
+          let above : le (pixel_at b t.at) (pixel_at b n) ≡ true = le_of_lt (pixel_at b t.at) (pixel_at b n) h in
+          inr (last e (λ i j k. le_trans (pixel_at b i) (pixel_at b t.at) (pixel_at b n) (t.largest i j k) above)))
+          (le_total (pixel_at b n) (pixel_at b t.at) (le_left (pixel_at b n) x e) (le_left (pixel_at b t.at) x t.counted))

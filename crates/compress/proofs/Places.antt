@@ -10,10 +10,10 @@ use borrow.Author.Tests.{lt-ltb, le-ltb}
 use lib.Dec.{ltb}
 use lib.Ieee.{Float, le, lt, eq}
 use Rattle.floats.specs.Arithmetic.{f0}
-use Rattle.block.specs.Samples.{pixelAt}
+use Rattle.block.specs.Samples.{pixel_at}
 use Rattle.refine.specs.declared.rounds.Held.{Held}
 use Rattle.compress.specs.Sorted.{count_to}
-use Rattle.compress.specs.Network.{firstZeroTo}
+use Rattle.compress.specs.Network.{first_zero_to}
 use Rattle.compress.specs.Inter4.{upward, candidate, walked}
 
 -- both arms the same
@@ -23,13 +23,13 @@ either false h = refl
 
 module _ (b : List Float) where
   -- one sample more
-  pub count-more : (x : Float) (i : ℕ) → count_to b x (i + 1) ≡ count_to b x i + cond (le (pixelAt b i) x) 1 0
+  pub count_more : (x : Float) (i : ℕ) → count_to b x (i + 1) ≡ count_to b x i + cond (le (pixel_at b i) x) 1 0
   unfolding count_to
-  count-more x i = rw add-one
+  count_more x i = rw add-one
 
-  pub first-zero-more : (i : ℕ) → firstZeroTo b (i + 1) ≡ cond (eq (firstZeroTo b i) f0) (firstZeroTo b i) (pixelAt b i)
-  unfolding firstZeroTo
-  first-zero-more i = rw add-one
+  pub first_zero_more : (i : ℕ) → first_zero_to b (i + 1) ≡ cond (eq (first_zero_to b i) f0) (first_zero_to b i) (pixel_at b i)
+  unfolding first_zero_to
+  first_zero_more i = rw add-one
 
   -- one move more, while moves are left, places remain between the two and the error gets smaller
   pub walked_step : (n : ℕ) (h : Held) (low high : ℕ) → 0 < n → low < high → lt (candidate b h low high).error h.error ≡ true
@@ -38,15 +38,15 @@ module _ (b : List Float) where
   walked_step zero h low high p t s = absurd (lt_irrefl 0 p)
   walked_step (suc n) h low high p t s = rw (lt-ltb low high t, s, sub-one)
 
-  pub walked-met : (n : ℕ) (h : Held) (low high : ℕ) → high ≤ low → walked b n h low high ≡ h
+  pub walked_met : (n : ℕ) (h : Held) (low high : ℕ) → high ≤ low → walked b n h low high ≡ h
   unfolding walked
-  walked-met zero h low high t = refl
-  walked-met (suc n) h low high t = rw (le-ltb low high t)
+  walked_met zero h low high t = refl
+  walked_met (suc n) h low high t = rw (le-ltb low high t)
 
-  pub walked-failed : (n : ℕ) (h : Held) (low high : ℕ) → lt (candidate b h low high).error h.error ≡ false → walked b n h low high ≡ h
+  pub walked_failed : (n : ℕ) (h : Held) (low high : ℕ) → lt (candidate b h low high).error h.error ≡ false → walked b n h low high ≡ h
   unfolding walked
-  walked-failed zero h low high t = refl
-  walked-failed (suc n) h low high t = rw t (either (ltb low high) h)
+  walked_failed zero h low high t = refl
+  walked_failed (suc n) h low high t = rw t (either (ltb low high) h)
 
   pub walked_none : (n : ℕ) (h : Held) (low high : ℕ) → n ≤ 0 → walked b n h low high ≡ h
   unfolding walked

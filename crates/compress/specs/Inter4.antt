@@ -3,26 +3,26 @@ use Rattle.std.specs.Prelude.{List, Bool, cond, ◌&&◌, ℕ, zero, suc, ◌+�
 use Rattle.std.specs.Float.Ieee.{lt}
 use Rattle.floats.specs.Arithmetic.{◌⊖◌, bits, f1}
 use Rattle.floats.specs.declared.Pair.{Pair}
-use Rattle.block.specs.Block.{bc4MinValue, minMaxWithThreshold}
+use Rattle.block.specs.Block.{bc4_min_value, min_max_with_threshold}
 use Rattle.palette.specs.declared.Kind.TheVariants.{Four}
 use Rattle.options.specs.declared.Options.{Options}
 use Rattle.refine.specs.declared.rounds.Held.{Held}
 use Rattle.refine.specs.Rounds.{held}
-use Rattle.refine.specs.Refining.{refinedEnds}
+use Rattle.refine.specs.Refining.{refined_ends}
 use Rattle.coding.specs.declared.Coded.{Coded}
 use Rattle.coding.specs.Coding.{coded}
 use Rattle.compress.specs.Sorted.{placed, place_of}
 
 -- MAX_DISTANCE, 0.125, and 1 - MAX_DISTANCE
-abbrev pub maxDistance : Float
-maxDistance = bits 0x3e00_0000
+abbrev pub max_distance : Float
+max_distance = bits 0x3e00_0000
 
-abbrev pub fromOne : Float
-fromOne = bits 0x3f60_0000
+abbrev pub from_one : Float
+from_one = bits 0x3f60_0000
 
 -- both ends are further than an eighth from 0 and 1, so that no sample gains by being left to these two values
 abbrev pub far : Pair → Bool
-far p = lt maxDistance p.0 && lt p.1 fromOne
+far p = lt max_distance p.0 && lt p.1 from_one
 
 -- The end that is nearer to its default moves: min up, or else max down.
 abbrev pub upward : Held → Bool
@@ -46,8 +46,8 @@ reassigned b p =
     let h = walked b 4 (held Four b p.0 p.1) (place_of b p.0) (place_of b p.1) in
     cond (far p) p (record { 0 = h.min; 1 = h.max })
 
-abbrev pub firstEnds : List Float → Bool → Pair → Pair
-firstEnds b reassign p = cond reassign (reassigned b p) p
+abbrev pub first_ends : List Float → Bool → Pair → Pair
+first_ends b reassign p = cond reassign (reassigned b p) p
 
-unfoldable pub compressInter4 : List Float → Options → Coded
-compressInter4 b o = coded Four b o.snorm o.dither (refinedEnds Four b (firstEnds b o.iter_initial_inter4 (minMaxWithThreshold b bc4MinValue)) o)
+unfoldable pub compress_inter4 : List Float → Options → Coded
+compress_inter4 b o = coded Four b o.snorm o.dither (refined_ends Four b (first_ends b o.iter_initial_inter4 (min_max_with_threshold b bc4_min_value)) o)

@@ -1,11 +1,11 @@
 -- bc4.rs, the loop of `inter4_reassign_defaults`, in the Rust's own form, for reading beside it: a move that fails is only noted, and the loop breaks
 -- where the same side is next again. The encoder is defined by `walked` of Inter4, which ends at the first move that fails; that the two come to the
--- same is `walked-is-loop` in proofs/.
+-- same is `walked_is_loop` in proofs/.
 use Rattle.std.specs.Prelude.{List, Bool, true, false, cond, ℕ, zero, suc, ◌+◌, ◌-◌, leb, Float}
 use Rattle.std.specs.Float.Ieee.{lt}
 use Rattle.floats.specs.Arithmetic.{◌⊖◌, f1}
 use Rattle.palette.specs.declared.Kind.TheVariants.{Four}
-use Rattle.palette.specs.PaletteError.{paletteError}
+use Rattle.palette.specs.PaletteError.{palette_error}
 use Rattle.refine.specs.declared.rounds.Held.{Held}
 use Rattle.compress.specs.Sorted.{placed}
 
@@ -27,42 +27,42 @@ pub record Loop : Type 0 where
   pub min : Float
   pub max : Float
   pub error : Float
-  pub minIndex : ℕ
-  pub maxIndex : ℕ
-  pub lastFailedMove : LastMove
+  pub min_index : ℕ
+  pub max_index : ℕ
+  pub last_failed_move : LastMove
 
 -- move min up, or note that it failed; values[k] of the Rust, the sorted samples, is `placed b k`
-unfoldable pub moveMin : List Float → Loop → Loop
-moveMin b s =
-    let newMin = placed b (s.minIndex + 1) in
-    let newError = paletteError Four b newMin s.max in
-    cond (lt newError s.error)
-    (record { min = newMin; max = s.max; error = newError; minIndex = s.minIndex + 1; maxIndex = s.maxIndex; lastFailedMove = s.lastFailedMove })
-    (record { min = s.min; max = s.max; error = s.error; minIndex = s.minIndex; maxIndex = s.maxIndex; lastFailedMove = Min })
+unfoldable pub move_min : List Float → Loop → Loop
+move_min b s =
+    let new_min = placed b (s.min_index + 1) in
+    let new_error = palette_error Four b new_min s.max in
+    cond (lt new_error s.error)
+    (record { min = new_min; max = s.max; error = new_error; min_index = s.min_index + 1; max_index = s.max_index; last_failed_move = s.last_failed_move })
+    (record { min = s.min; max = s.max; error = s.error; min_index = s.min_index; max_index = s.max_index; last_failed_move = Min })
 
 -- move max down, or note that it failed
-unfoldable pub moveMax : List Float → Loop → Loop
-moveMax b s =
-    let newMax = placed b (s.maxIndex - 1) in
-    let newError = paletteError Four b s.min newMax in
-    cond (lt newError s.error)
-    (record { min = s.min; max = newMax; error = newError; minIndex = s.minIndex; maxIndex = s.maxIndex - 1; lastFailedMove = s.lastFailedMove })
-    (record { min = s.min; max = s.max; error = s.error; minIndex = s.minIndex; maxIndex = s.maxIndex; lastFailedMove = Max })
+unfoldable pub move_max : List Float → Loop → Loop
+move_max b s =
+    let new_max = placed b (s.max_index - 1) in
+    let new_error = palette_error Four b s.min new_max in
+    cond (lt new_error s.error)
+    (record { min = s.min; max = new_max; error = new_error; min_index = s.min_index; max_index = s.max_index - 1; last_failed_move = s.last_failed_move })
+    (record { min = s.min; max = s.max; error = s.error; min_index = s.min_index; max_index = s.max_index; last_failed_move = Max })
 
 -- at most n turns, of MAX_ITER = 4; to break is to stay at s
 unfoldable pub looped : List Float → ℕ → Loop → Loop
 looped b zero s = s
 looped b (suc n) s =
-    let minDist = s.min in
-    let maxDist = f1 ⊖ s.max in
+    let min_dist = s.min in
+    let max_dist = f1 ⊖ s.max in
     -- if min_index >= max_index { break; }
-    cond (leb s.maxIndex s.minIndex) s
+    cond (leb s.max_index s.min_index) s
     -- if min_dist < max_dist { if last_failed_move == LastMove::Min { break; } ..
-    (cond (lt minDist maxDist)
-    (cond (is_min s.lastFailedMove) s (looped b n (moveMin b s)))
+    (cond (lt min_dist max_dist)
+    (cond (is_min s.last_failed_move) s (looped b n (move_min b s)))
     -- } else { if last_failed_move == LastMove::Max { break; } ..
-    (cond (is_max s.lastFailedMove) s (looped b n (moveMax b s))))
+    (cond (is_max s.last_failed_move) s (looped b n (move_max b s))))
 
 -- the pair of a state, with its error
-abbrev pub heldIn : Loop → Held
-heldIn s = record { min = s.min; max = s.max; error = s.error }
+abbrev pub held_in : Loop → Held
+held_in s = record { min = s.min; max = s.max; error = s.error }

@@ -1,7 +1,7 @@
 // compress_inter4 with inter4_reassign_defaults.
 ghost use Rattle.std.specs.Prelude.{◌≡◌, ◌<◌};
 ghost use Rattle.compress.specs.Network.{InOrder};
-ghost use Rattle.compress.specs.Inter4.{far as farOf, upward as upwardOf, candidate as candidateOf, walked as walkedOf, reassigned, firstEnds, compressInter4};
+ghost use Rattle.compress.specs.Inter4.{far as far_of, upward as upward_of, candidate as candidate_of, walked as walked_of, reassigned, first_ends, compress_inter4};
 
 use coding::Coded;
 use end_points::EndPoints;
@@ -17,20 +17,20 @@ const MAX_DISTANCE: f32 = 0.125;
 const FROM_ONE: f32 = 1.0 - MAX_DISTANCE;
 
 fn far(p: Pair) -> bool
-    ensures { result ≡ farOf p }
+    ensures { result ≡ far_of p }
 {
     (MAX_DISTANCE < p.0) & (p.1 < FROM_ONE)
 }
 
 fn upward(h: Held) -> bool
-    ensures { result ≡ upwardOf h }
+    ensures { result ≡ upward_of h }
 {
     h.min < 1.0 - h.max
 }
 
 fn candidate(b: &[f32; 16], s: &[f32; 16], h: Held, low: u32, high: u32) -> Held
     requires { InOrder b.now s.now × (low < high) × (high < 16) }
-    ensures { result ≡ candidateOf b.now h low high }
+    ensures { result ≡ candidate_of b.now h low high }
 {
     if upward(h) {
         return refine::rounds::hold(Kind::Four, b, crate::sorted::placed(b, s, low + 1), h.max);
@@ -41,7 +41,7 @@ fn candidate(b: &[f32; 16], s: &[f32; 16], h: Held, low: u32, high: u32) -> Held
 // The Rust remembers the side of a move that failed and stops when that side is next again. It always is: nothing has changed by then.
 fn walked(b: &[f32; 16], s: &[f32; 16], start: Held, from: u32, to: u32) -> Held
     requires { InOrder b.now s.now × (to < 16) }
-    ensures { result ≡ walkedOf b.now 4 start from to }
+    ensures { result ≡ walked_of b.now 4 start from to }
 {
     let mut h = start;
     let mut low = from;
@@ -79,7 +79,7 @@ fn inter4_reassign_defaults(b: &[f32; 16], p: Pair) -> Pair
 }
 
 fn first_ends(b: &[f32; 16], reassign: bool, p: Pair) -> Pair
-    ensures { result ≡ firstEnds b.now reassign p }
+    ensures { result ≡ first_ends b.now reassign p }
 {
     if reassign {
         return inter4_reassign_defaults(b, p);
@@ -88,7 +88,7 @@ fn first_ends(b: &[f32; 16], reassign: bool, p: Pair) -> Pair
 }
 
 pub fn compress_inter4(b: &[f32; 16], o: Options) -> Coded
-    ensures { result ≡ compressInter4 b.now o }
+    ensures { result ≡ compress_inter4 b.now o }
 {
     let p = block::min_max_with_threshold(b, BC4_MIN_VALUE);
     let first = first_ends(b, o.iter_initial_inter4, p);

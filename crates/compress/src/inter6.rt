@@ -1,6 +1,6 @@
 // compress_inter6.
 ghost use Rattle.std.specs.Prelude.{◌≡◌};
-ghost use Rattle.compress.specs.Inter6.{compressedFrom, nudged as nudgedOf, nudgedPair, five as fiveOf, compressInter6};
+ghost use Rattle.compress.specs.Inter6.{compressed_from, nudged as nudged_of, nudged_pair, five as five_of, compress_inter6};
 
 use coding::Coded;
 use end_points::EndPoints;
@@ -10,7 +10,7 @@ use palette::Kind;
 
 // compress_inter6_impl
 fn compressed_from(b: &[f32; 16], p: Pair, o: Options) -> Coded
-    ensures { result ≡ compressedFrom b.now p o }
+    ensures { result ≡ compressed_from b.now p o }
 {
     let fitted = fit::fitted_twice(b, p);
     let ends = refine::refine_endpoints(Kind::Six, b, fitted.0, fitted.1, o);
@@ -23,20 +23,20 @@ fn compressed_from(b: &[f32; 16], p: Pair, o: Options) -> Coded
 }
 
 fn nudged(mean: f32, x: f32) -> f32
-    ensures { result ≡ nudgedOf mean x }
+    ensures { result ≡ nudged_of mean x }
 {
     mean + (x - mean) * 0.95
 }
 
 fn nudged_pair(b: &[f32; 16], p: Pair) -> Pair
-    ensures { result ≡ nudgedPair b.now p }
+    ensures { result ≡ nudged_pair b.now p }
 {
     let mean = block::mean(b);
     Pair(nudged(mean, p.0), nudged(mean, p.1))
 }
 
 fn five(p: Pair) -> Pair
-    ensures { result ≡ fiveOf p }
+    ensures { result ≡ five_of p }
 {
     let dist = p.1 - p.0;
     let min5 = p.0 - dist * 0.25;
@@ -48,7 +48,7 @@ fn five(p: Pair) -> Pair
 }
 
 pub fn compress_inter6(b: &[f32; 16], p: Pair, o: Options) -> Coded
-    ensures { result ≡ compressInter6 b.now p o }
+    ensures { result ≡ compress_inter6 b.now p o }
 {
     let near = nudged_pair(b, p);
     let best = compressed_from(b, near, o);

@@ -2,13 +2,13 @@
 ghost use Rattle.std.specs.Prelude.{◌≡◌, ℕ, ◌≤◌, ◌<◌, T};
 ghost use Rattle.std.specs.Float.{binary32};
 ghost use Rattle.std.specs.Float.Ieee.{fits};
-ghost use Rattle.block.specs.Samples.{pixelAt};
-ghost use Rattle.compress.specs.Network.{smallerFirst, stepped, run, pass as passOf, capped as cappedOf, InOrder};
+ghost use Rattle.block.specs.Samples.{pixel_at};
+ghost use Rattle.compress.specs.Network.{smaller_first, stepped, run, pass as pass_of, capped as capped_of, InOrder};
 
 // With no test for a NaN: `capped` leaves none.
 fn exchange(s: &mut [f32; 16], i: usize, j: usize)
     requires { (i < 16) × (j < 16) }
-    ensures { s.new ≡ stepped smallerFirst s.old (record { i = i; j = j }) }
+    ensures { s.new ≡ stepped smaller_first s.old (record { i = i; j = j }) }
 {
     let a = s[i];
     let b = s[j];
@@ -20,7 +20,7 @@ fn exchange(s: &mut [f32; 16], i: usize, j: usize)
 // The test is on places alone: with p, r and d given, the compiler lays the steps out one after the other.
 fn pass(s: &mut [f32; 16], p: usize, r: usize, d: usize)
     requires { (0 < p) × (d ≤ 16) }
-    ensures { s.new ≡ run smallerFirst (passOf p r d) s.old }
+    ensures { s.new ≡ run smaller_first (pass_of p r d) s.old }
 {
     for i in 0..16 - d {
         if i / p % 2 == r {
@@ -32,8 +32,8 @@ fn pass(s: &mut [f32; 16], p: usize, r: usize, d: usize)
 // At 2, and not at the 1 that a place is held to: the entry's own cap at 1 makes a second one nothing to the compiler, which then lays some exchanges out
 // as branches (docs/SPEED.md).
 fn capped(b: &[f32; 16]) -> [f32; 16]
-    ensures value { result ≡ cappedOf b.now }
-    ensures fit { (i : ℕ) → i < 16 → T (fits binary32 (pixelAt result i)) }
+    ensures value { result ≡ capped_of b.now }
+    ensures fit { (i : ℕ) → i < 16 → T (fits binary32 (pixel_at result i)) }
 {
     let mut s = [1.0f32; 16];
     for i in 0..16usize {

@@ -1,10 +1,10 @@
 // The samples by place: how many are not above a float, and a sample looked up in the sorted sixteen.
 ghost use Rattle.std.specs.Prelude.{◌≡◌, ◌<◌};
-ghost use Rattle.compress.specs.Sorted.{notAbove, placed as placed_of, place_of};
-ghost use Rattle.compress.specs.Network.{InOrder, firstZero};
+ghost use Rattle.compress.specs.Sorted.{not_above, placed as placed_of, place_of};
+ghost use Rattle.compress.specs.Network.{InOrder, first_zero};
 
 fn not_above(b: &[f32; 16], x: f32) -> u32
-    ensures { result ≡ notAbove b.now x }
+    ensures { result ≡ not_above b.now x }
 {
     let mut n = 0u32;
     for i in 0..16usize {
@@ -15,7 +15,7 @@ fn not_above(b: &[f32; 16], x: f32) -> u32
 
 // Zeros of both signs are equal, and the sort may exchange them: the first of the block stands for all. After entry there is one zero only.
 fn first_zero(b: &[f32; 16]) -> f32
-    ensures { result ≡ firstZero b.now }
+    ensures { result ≡ first_zero b.now }
 {
     let mut z = 1.0f32;
     for i in 0..16usize {

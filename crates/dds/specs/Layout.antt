@@ -24,21 +24,21 @@
 --    144   misc flags 2
 use Rattle.std.specs.Prelude.{◌≡◌, Bool, true, cond, List, [], ◌∷◌, ◌++◌, ℕ, ◌≤◌, eqb, length, get_or}
 use Rattle.fields.specs.Fields.{field_at, field_of}
-use Rattle.place.specs.Place.{bc4Size, encodedLength, joined}
+use Rattle.place.specs.Place.{bc4_size, encoded_length, joined}
 
-abbrev pub headerLength : ℕ
-headerLength = 128
+abbrev pub header_length : ℕ
+header_length = 128
 
-abbrev pub extendedLength : ℕ
-extendedLength = 148
+abbrev pub extended_length : ℕ
+extended_length = 148
 
 -- what the header size field says: all but the magic
-abbrev pub headerSize : ℕ
-headerSize = 124
+abbrev pub header_size : ℕ
+header_size = 124
 
 -- ---- four characters as a number, the first lowest: `DDS `, `BC4U`, `BC4S`, `DX10`
-abbrev pub ddsMagic : ℕ
-ddsMagic = 0x20534444
+abbrev pub dds_magic : ℕ
+dds_magic = 0x20534444
 
 abbrev pub bc4u : ℕ
 bc4u = 0x55344342
@@ -50,70 +50,70 @@ abbrev pub dx10 : ℕ
 dx10 = 0x30315844
 
 -- ---- formats of the extension
-abbrev pub unsignedFormat : ℕ
-unsignedFormat = 80
+abbrev pub unsigned_format : ℕ
+unsigned_format = 80
 
-abbrev pub signedFormat : ℕ
-signedFormat = 81
+abbrev pub signed_format : ℕ
+signed_format = 81
 
 -- ---- writing: the 32 fields of the header in order, a line for each eight
-abbrev pub headerFields : ℕ → ℕ → Bool → List ℕ
-headerFields width height snorm =
-    ddsMagic ∷ headerSize ∷ 0x81007 ∷ height ∷ width ∷ encodedLength bc4Size width height ∷ 0 ∷ 1
+abbrev pub header_fields : ℕ → ℕ → Bool → List ℕ
+header_fields width height snorm =
+    dds_magic ∷ header_size ∷ 0x81007 ∷ height ∷ width ∷ encoded_length bc4_size width height ∷ 0 ∷ 1
     ∷ 0 ∷ 0 ∷ 0 ∷ 0 ∷ 0 ∷ 0 ∷ 0 ∷ 0
     ∷ 0 ∷ 0 ∷ 0 ∷ 32 ∷ 4 ∷ cond snorm bc4s bc4u ∷ 0 ∷ 0
     ∷ 0 ∷ 0 ∷ 0 ∷ 0x1000 ∷ 0 ∷ 0 ∷ 0 ∷ 0 ∷ []
 
-abbrev pub headerField : ℕ → ℕ → Bool → ℕ → List ℕ
-headerField width height snorm k = field_of 4 (get_or (headerFields width height snorm) k 0)
+abbrev pub header_field : ℕ → ℕ → Bool → ℕ → List ℕ
+header_field width height snorm k = field_of 4 (get_or (header_fields width height snorm) k 0)
 
-unfoldable pub headerOf : ℕ → ℕ → Bool → List ℕ
-headerOf width height snorm = joined (headerField width height snorm) 32
+unfoldable pub header_of : ℕ → ℕ → Bool → List ℕ
+header_of width height snorm = joined (header_field width height snorm) 32
 
-abbrev pub fileOf : List ℕ → ℕ → ℕ → Bool → List ℕ
-fileOf tile width height snorm = headerOf width height snorm ++ tile
+abbrev pub file_of : List ℕ → ℕ → ℕ → Bool → List ℕ
+file_of tile width height snorm = header_of width height snorm ++ tile
 
 -- ---- reading: the fields that the reader looks at
-abbrev pub magicIn : List ℕ → ℕ
-magicIn file = field_at 4 file 0
+abbrev pub magic_in : List ℕ → ℕ
+magic_in file = field_at 4 file 0
 
-abbrev pub headerSizeIn : List ℕ → ℕ
-headerSizeIn file = field_at 4 file 4
+abbrev pub header_size_in : List ℕ → ℕ
+header_size_in file = field_at 4 file 4
 
-abbrev pub heightIn : List ℕ → ℕ
-heightIn file = field_at 4 file 12
+abbrev pub height_in : List ℕ → ℕ
+height_in file = field_at 4 file 12
 
 abbrev pub width_in : List ℕ → ℕ
 width_in file = field_at 4 file 16
 
-abbrev pub depthIn : List ℕ → ℕ
-depthIn file = field_at 4 file 24
+abbrev pub depth_in : List ℕ → ℕ
+depth_in file = field_at 4 file 24
 
-abbrev pub mipCountIn : List ℕ → ℕ
-mipCountIn file = field_at 4 file 28
+abbrev pub mip_count_in : List ℕ → ℕ
+mip_count_in file = field_at 4 file 28
 
-abbrev pub fourCharactersIn : List ℕ → ℕ
-fourCharactersIn file = field_at 4 file 84
+abbrev pub four_characters_in : List ℕ → ℕ
+four_characters_in file = field_at 4 file 84
 
-abbrev pub caps2In : List ℕ → ℕ
-caps2In file = field_at 4 file 112
+abbrev pub caps2_in : List ℕ → ℕ
+caps2_in file = field_at 4 file 112
 
 abbrev pub extended : List ℕ → Bool
-extended file = eqb (fourCharactersIn file) dx10
+extended file = eqb (four_characters_in file) dx10
 
 -- of a file without extension: the format that the four characters stand for
 unfoldable pub format_in : List ℕ → ℕ
-format_in file = cond (extended file) (field_at 4 file 128) (cond (eqb (fourCharactersIn file) bc4s) signedFormat unsignedFormat)
+format_in file = cond (extended file) (field_at 4 file 128) (cond (eqb (four_characters_in file) bc4s) signed_format unsigned_format)
 
 -- of a file without extension: one
-unfoldable pub arraySizeIn : List ℕ → ℕ
-arraySizeIn file = cond (extended file) (field_at 4 file 140) 1
+unfoldable pub array_size_in : List ℕ → ℕ
+array_size_in file = cond (extended file) (field_at 4 file 140) 1
 
 -- where the body starts
 unfoldable pub body_at : List ℕ → ℕ
-body_at file = cond (extended file) extendedLength headerLength
+body_at file = cond (extended file) extended_length header_length
 
 -- the headers are there, which refusal 11 is about
 pub record Whole (file : List ℕ) : Type 0 where
-  pub header : headerLength ≤ length file
-  pub extension : extended file ≡ true → extendedLength ≤ length file
+  pub header : header_length ≤ length file
+  pub extension : extended file ≡ true → extended_length ≤ length file

@@ -1,7 +1,7 @@
 // The header of a DDS file: what it holds, and how it is written.
 ghost use Rattle.std.specs.Prelude.{◌≡◌, false, cond, ◌++◌, ◌≤◌, length, drop};
-ghost use Rattle.place.specs.Place.{badSize};
-ghost use Rattle.dds.specs.Layout.{headerLength, bc4u, bc4s, headerFields, headerOf};
+ghost use Rattle.place.specs.Place.{bad_size};
+ghost use Rattle.dds.specs.Layout.{header_length, bc4u, bc4s, header_fields, header_of};
 
 pub const LENGTH: usize = 128;
 
@@ -33,8 +33,8 @@ fn four_characters(snorm: bool) -> u32
 
 // The 32 fields: field k stands at byte 4k.
 fn fields_of(width: usize, height: usize, snorm: bool) -> [u32; 32]
-    requires { badSize width height ≡ false }
-    ensures { result ≡ headerFields width height snorm }
+    requires { bad_size width height ≡ false }
+    ensures { result ≡ header_fields width height snorm }
 {
     let mut all = [0u32; 32];
     all[0] = DDS;
@@ -53,8 +53,8 @@ fn fields_of(width: usize, height: usize, snorm: bool) -> [u32; 32]
 
 // The 128 bytes, at the start of `out`. Later bytes stay.
 pub fn put(width: usize, height: usize, snorm: bool, out: &mut [u8])
-    requires { (badSize width height ≡ false) × (headerLength ≤ length out.old) }
-    ensures { out.new ≡ headerOf width height snorm ++ drop headerLength out.old }
+    requires { (bad_size width height ≡ false) × (header_length ≤ length out.old) }
+    ensures { out.new ≡ header_of width height snorm ++ drop header_length out.old }
 {
     let all = fields_of(width, height, snorm);
     for k in 0..32usize {

@@ -1,8 +1,8 @@
 // Document 02, 1/12: a BC4 tile as a DDS file, written into lent bytes, and read back as a part of the caller's file.
 ghost use Rattle.std.specs.Prelude.{◌≡◌, length};
 ghost use Rattle.refusal.specs.Refusals.{first_of};
-ghost use Rattle.dds.specs.Checks.{writeChecks, readChecks};
-ghost use Rattle.dds.specs.Calls.{writeAnswer, fileAfter, pictureIn, readAnswer, body_of};
+ghost use Rattle.dds.specs.Checks.{write_checks, read_checks};
+ghost use Rattle.dds.specs.Calls.{write_answer, file_after, picture_in, read_answer, body_of};
 
 mod header;
 mod reading;
@@ -32,7 +32,7 @@ pub enum Found {
 }
 
 fn write_refusal(long: usize, width: usize, height: usize, room: usize) -> Checked
-    ensures { result ≡ first_of (writeChecks long width height room) }
+    ensures { result ≡ first_of (write_checks long width height room) }
 {
     let checked = refusal::tile_bytes(long, width, height);
     match checked {
@@ -48,8 +48,8 @@ fn write_refusal(long: usize, width: usize, height: usize, room: usize) -> Check
 
 // The file of a tile, into the first 128 + width * height / 2 bytes of `out`. Later bytes stay.
 pub fn write(tile: &[u8], width: usize, height: usize, snorm: bool, out: &mut [u8]) -> Written
-    ensures answer { result ≡ writeAnswer (length tile.now) width height (length out.old) }
-    ensures bytes { out.new ≡ fileAfter result tile.now width height snorm out.old }
+    ensures answer { result ≡ write_answer (length tile.now) width height (length out.old) }
+    ensures bytes { out.new ≡ file_after result tile.now width height snorm out.old }
 {
     let checked = write_refusal(tile.len(), width, height, out.len());
     match checked {
@@ -65,7 +65,7 @@ pub fn write(tile: &[u8], width: usize, height: usize, snorm: bool, out: &mut [u
 
 // Size and format of the tile that a file holds.
 pub fn read(file: &[u8]) -> Found
-    ensures { result ≡ readAnswer file.now }
+    ensures { result ≡ read_answer file.now }
 {
     let checked = read_refusal(file);
     match checked {
@@ -89,7 +89,7 @@ pub fn body(file: &[u8]) -> &[u8]
 }
 
 pub fn read_refusal(file: &[u8]) -> Checked
-    ensures { result ≡ first_of (readChecks file.now) }
+    ensures { result ≡ first_of (read_checks file.now) }
 {
     reading::cut(file)
 }

@@ -1,9 +1,9 @@
 // What reading a DDS file looks at, number by number: each function makes the checks of one number and asks the next; the last makes those of the size, 1, 9 and 10, and 15.
 ghost use Rattle.std.specs.Prelude.{◌≡◌, ◌++◌, ◌≤◌, length};
 ghost use Rattle.refusal.specs.Refusals.{first_of};
-ghost use Rattle.dds.specs.Layout.{headerLength, extended, format_in, arraySizeIn, body_at, Whole};
-ghost use Rattle.dds.specs.Checks.{readChecks, markChecks, formatChecks, pictureChecks, sideChecks, bodyChecks};
-ghost use Rattle.dds.specs.Calls.{pictureIn};
+ghost use Rattle.dds.specs.Layout.{header_length, extended, format_in, array_size_in, body_at, Whole};
+ghost use Rattle.dds.specs.Checks.{read_checks, mark_checks, format_checks, picture_checks, side_checks, body_checks};
+ghost use Rattle.dds.specs.Calls.{picture_in};
 
 use crate::{Picture, header};
 use refusal::{Checked, Field, Refusal};
@@ -16,7 +16,7 @@ fn wrong(field: Field) -> Checked
 
 // ---- fields of the extension, and what stands for them in a file without it
 fn is_extended(file: &[u8]) -> bool
-    requires { headerLength ≤ length file.now }
+    requires { header_length ≤ length file.now }
     ensures { result ≡ extended file.now }
 {
     fields::read_u32(file, 84) == header::DX10
@@ -37,7 +37,7 @@ fn format_in(file: &[u8]) -> u32
 
 fn array_size_in(file: &[u8]) -> u32
     requires { Whole file.now }
-    ensures { result ≡ arraySizeIn file.now }
+    ensures { result ≡ array_size_in file.now }
 {
     if is_extended(file) {
         return fields::read_u32(file, 140);
@@ -47,7 +47,7 @@ fn array_size_in(file: &[u8]) -> u32
 
 // Where the body starts.
 pub fn body_at(file: &[u8]) -> usize
-    requires { headerLength ≤ length file.now }
+    requires { header_length ≤ length file.now }
     ensures { result ≡ body_at file.now }
 {
     if is_extended(file) {
@@ -58,7 +58,7 @@ pub fn body_at(file: &[u8]) -> usize
 
 pub fn picture(file: &[u8]) -> Picture
     requires { Whole file.now }
-    ensures { result ≡ pictureIn file.now }
+    ensures { result ≡ picture_in file.now }
 {
     Picture {
         width: fields::read_u32(file, 16) as usize,
@@ -70,7 +70,7 @@ pub fn picture(file: &[u8]) -> Picture
 
 // ---- 11
 pub fn cut(file: &[u8]) -> Checked
-    ensures { result ≡ first_of (readChecks file.now) }
+    ensures { result ≡ first_of (read_checks file.now) }
 {
     if file.len() < header::LENGTH {
         return wrong(Field::Header);
@@ -84,7 +84,7 @@ pub fn cut(file: &[u8]) -> Checked
 // 12
 fn mark(file: &[u8]) -> Checked
     requires { Whole file.now }
-    ensures { let f = file.now in result ≡ first_of (markChecks f ++ formatChecks f ++ pictureChecks f ++ sideChecks f ++ bodyChecks f) }
+    ensures { let f = file.now in result ≡ first_of (mark_checks f ++ format_checks f ++ picture_checks f ++ side_checks f ++ body_checks f) }
 {
     if fields::read_u32(file, 0) != header::DDS {
         return wrong(Field::Magic);
@@ -98,7 +98,7 @@ fn mark(file: &[u8]) -> Checked
 // 13
 fn format(file: &[u8]) -> Checked
     requires { Whole file.now }
-    ensures { let f = file.now in result ≡ first_of (formatChecks f ++ pictureChecks f ++ sideChecks f ++ bodyChecks f) }
+    ensures { let f = file.now in result ≡ first_of (format_checks f ++ picture_checks f ++ side_checks f ++ body_checks f) }
 {
     let four = fields::read_u32(file, 84);
     if (four != header::BC4U) & (four != header::BC4S) & (four != header::DX10) {
@@ -114,7 +114,7 @@ fn format(file: &[u8]) -> Checked
 // 14
 fn pictures(file: &[u8]) -> Checked
     requires { Whole file.now }
-    ensures { let f = file.now in result ≡ first_of (pictureChecks f ++ sideChecks f ++ bodyChecks f) }
+    ensures { let f = file.now in result ≡ first_of (picture_checks f ++ side_checks f ++ body_checks f) }
 {
     if 1 < fields::read_u32(file, 28) {
         return wrong(Field::MipCount);
@@ -134,7 +134,7 @@ fn pictures(file: &[u8]) -> Checked
 // 1, 9, 10, and 15
 fn sides(file: &[u8]) -> Checked
     requires { Whole file.now }
-    ensures { let f = file.now in result ≡ first_of (sideChecks f ++ bodyChecks f) }
+    ensures { let f = file.now in result ≡ first_of (side_checks f ++ body_checks f) }
 {
     let width = fields::read_u32(file, 16) as usize;
     let height = fields::read_u32(file, 12) as usize;

@@ -8,7 +8,7 @@ use lib.Ieee.{Float, nan, inf, fin, binary32, of_bits, to_bits, of_fields, odd, 
 use lib.Ieee.Fits.{down_pos}
 use lib.Ieee.Exact.{HasValue, odd_sign}
 use lib.Ieee.Bits.{of_bits-to_bits}
-use Rattle.floats.proofs.Tests.{so-not}
+use Rattle.floats.proofs.Tests.{so_not}
 use Rattle.decode.specs.Exact.{scaled, magnitude}
 
 -- x is not negative, and n units of 2 ^ -149
@@ -36,11 +36,11 @@ fields s (suc x) t n h = go (eqb (suc x) 255) h
     go true u = absurd (infinite (eqb t 0) u)
     go false u = value_same (odd 24 s (2 ^ 23 + t) x 149) s false ((2 ^ 23 + t) * 2 ^ x) n (2 ^ 149) (odd_sign 24 s (2 ^ 23 + t) x 149) u
 
-ofBits-units : (b n : ℕ) → Units (of_bits binary32 b) n → (b < 2 ^ 31) × (magnitude b ≡ n)
+of_bits_units : (b n : ℕ) → Units (of_bits binary32 b) n → (b < 2 ^ 31) × (magnitude b ≡ n)
 unfolding of_bits
-ofBits-units b n h =
+of_bits_units b n h =
     let r = fields (leb (2 ^ 31) b) (b % 2 ^ 31 / 2 ^ 23) (b % 2 ^ 23) n h in
-    (nleb→lt (2 ^ 31) b (so-not r.0), r.1)
+    (nleb→lt (2 ^ 31) b (so_not r.0), r.1)
 
-pub toBits-units : (x : Float) (n : ℕ) → T (fits binary32 x) → Units x n → (to_bits binary32 x < 2 ^ 31) × (magnitude (to_bits binary32 x) ≡ n)
-toBits-units x n f h = ofBits-units (to_bits binary32 x) n (subst (λ (z : Float). Units z n) (sym (of_bits-to_bits binary32 x f)) h)
+pub to_bits_units : (x : Float) (n : ℕ) → T (fits binary32 x) → Units x n → (to_bits binary32 x < 2 ^ 31) × (magnitude (to_bits binary32 x) ≡ n)
+to_bits_units x n f h = of_bits_units (to_bits binary32 x) n (subst (λ (z : Float). Units z n) (sym (of_bits-to_bits binary32 x f)) h)

@@ -10,17 +10,17 @@ use lib.Ieee.{Float, binary32, to_bits, of_bits}
 use lib.Ieee.Bits.{of_bits-fits}
 use Rattle.floats.specs.Arithmetic.{◌⊕◌, ◌⊗◌, f0, f1}
 use Rattle.floats.proofs.Rounding.{Off}
-use Rattle.values.specs.Values.{steps, levelOf, value_of}
+use Rattle.values.specs.Values.{steps, level_of, value_of}
 use Rattle.index_list.specs.Layout.{byte_at}
-use Rattle.block.specs.Samples.{pixelAt}
-use Rattle.palette.specs.Palettes.{entry, fifth1, fifth2, fifth3, fifth4, inter6Palette, blended, colors}
-use Rattle.decode.specs.Meaning.{isSix, sixValues, table_of, value_at, blockIndex, decoded}
-use Rattle.decode.specs.Exact.{nearness, parts_of, exactFour, exactNum, exactDen, magnitude, Close}
-use Rattle.decode.proofs.Laws.{decoded-at, byte-lt, index-lt}
-use Rattle.decode.proofs.Bits.{toBits-units}
-use Rattle.decode.proofs.Mode.{six-levels}
-use Rattle.decode.proofs.Ends.{Near, End, end-at, ends-order}
-use Rattle.decode.proofs.Blends.{times, six-blend, Fifth, one-fifth, two-fifths, three-fifths, four-fifths, four-blend}
+use Rattle.block.specs.Samples.{pixel_at}
+use Rattle.palette.specs.Palettes.{entry, fifth1, fifth2, fifth3, fifth4, inter6_palette, blended, colors}
+use Rattle.decode.specs.Meaning.{is_six, six_values, table_of, value_at, block_index, decoded}
+use Rattle.decode.specs.Exact.{nearness, parts_of, exact_four, exact_num, exact_den, magnitude, Close}
+use Rattle.decode.proofs.Laws.{decoded_at, byte_lt, index_lt}
+use Rattle.decode.proofs.Bits.{to_bits_units}
+use Rattle.decode.proofs.Mode.{six_levels}
+use Rattle.decode.proofs.Ends.{Near, End, end_at, ends_order}
+use Rattle.decode.proofs.Blends.{times, six_blend, Fifth, one_fifth, two_fifths, three_fifths, four_fifths, four_blend}
 
 -- x is num / den up to 2 ^ 128 units, which are 1 / 2,097,152
 abbrev pub Bounded : Float → ℕ → ℕ → Type 0
@@ -63,8 +63,8 @@ module _ (d n0 n1 : ℕ) (x y : Float) (X : End x d n0) (Y : End y d n1) where
   first_off : (w a b : ℕ) → Off (w * a) (w * a + 0 * b) 0
   first_off w a b = omega arith
 
-  second-off : (w a b : ℕ) → Off (w * b) (0 * a + w * b) 0
-  second-off w a b = omega arith
+  second_off : (w a b : ℕ) → Off (w * b) (0 * a + w * b) 0
+  second_off w a b = omega arith
 
   first : (w : ℕ) → 0 + 2 * w ≤ 32 * w → w + 0 ≡ w → Bounded x (w * n0) (w * d)
   first w h s =
@@ -77,34 +77,34 @@ module _ (d n0 n1 : ℕ) (x y : Float) (X : End x d n0) (Y : End y d n1) where
   second : (w : ℕ) → 0 + 2 * w ≤ 32 * w → 0 + w ≡ w → Bounded y (w * n1) (w * d)
   second w h s =
       subst (λ (n : ℕ). Bounded y n (w * d)) (alone (w * n1) n0)
-      (mixed w 0 w 0 y h s (record { r = Y.near.r; ok = Y.near.ok; val = Y.near.val; off = second-off w X.near.r Y.near.r }))
+      (mixed w 0 w 0 y h s (record { r = Y.near.r; ok = Y.near.ok; val = Y.near.val; off = second_off w X.near.r Y.near.r }))
     where
       alone : (m n : ℕ) → 0 * n + m ≡ m
       alone m n = omega arith
 
   -- ---- six values
-  sevenths : Y.near.r ≤ X.near.r → (m k : ℕ) → m ≤ 6 → m + k ≡ 7 → Bounded (blended (inter6Palette x y) m) (m * n0 + k * n1) (7 * d)
-  sevenths l m k M s = mixed 7 m k 132 (blended (inter6Palette x y) m) (lit≤ tt) s (six-blend x y X.near.r Y.near.r m k X.near.val Y.near.val l X.top M s)
+  sevenths : Y.near.r ≤ X.near.r → (m k : ℕ) → m ≤ 6 → m + k ≡ 7 → Bounded (blended (inter6_palette x y) m) (m * n0 + k * n1) (7 * d)
+  sevenths l m k M s = mixed 7 m k 132 (blended (inter6_palette x y) m) (lit≤ tt) s (six_blend x y X.near.r Y.near.r m k X.near.val Y.near.val l X.top M s)
 
-  six-bounded : Y.near.r ≤ X.near.r → (k : ℕ) → k < 8 → Bounded (entry (sixValues x y) k) (parts_of 7 n0 n1 k) (7 * d)
-  unfolding sixValues
-  six-bounded l zero h = first 7 (lit≤ tt) refl
-  six-bounded l (suc zero) h = second 7 (lit≤ tt) refl
-  six-bounded l (suc (suc zero)) h = sevenths l 6 1 (lit≤ tt) refl
-  six-bounded l (suc (suc (suc zero))) h = sevenths l 5 2 (lit≤ tt) refl
-  six-bounded l (suc (suc (suc (suc zero)))) h = sevenths l 4 3 (lit≤ tt) refl
-  six-bounded l (suc (suc (suc (suc (suc zero))))) h = sevenths l 3 4 (lit≤ tt) refl
-  six-bounded l (suc (suc (suc (suc (suc (suc zero)))))) h = sevenths l 2 5 (lit≤ tt) refl
-  six-bounded l (suc (suc (suc (suc (suc (suc (suc zero))))))) h = sevenths l 1 6 (lit≤ tt) refl
-  six-bounded l (suc (suc (suc (suc (suc (suc (suc (suc k)))))))) h = absurd (omega arith)
+  six_bounded : Y.near.r ≤ X.near.r → (k : ℕ) → k < 8 → Bounded (entry (six_values x y) k) (parts_of 7 n0 n1 k) (7 * d)
+  unfolding six_values
+  six_bounded l zero h = first 7 (lit≤ tt) refl
+  six_bounded l (suc zero) h = second 7 (lit≤ tt) refl
+  six_bounded l (suc (suc zero)) h = sevenths l 6 1 (lit≤ tt) refl
+  six_bounded l (suc (suc (suc zero))) h = sevenths l 5 2 (lit≤ tt) refl
+  six_bounded l (suc (suc (suc (suc zero)))) h = sevenths l 4 3 (lit≤ tt) refl
+  six_bounded l (suc (suc (suc (suc (suc zero))))) h = sevenths l 3 4 (lit≤ tt) refl
+  six_bounded l (suc (suc (suc (suc (suc (suc zero)))))) h = sevenths l 2 5 (lit≤ tt) refl
+  six_bounded l (suc (suc (suc (suc (suc (suc (suc zero))))))) h = sevenths l 1 6 (lit≤ tt) refl
+  six_bounded l (suc (suc (suc (suc (suc (suc (suc (suc k)))))))) h = absurd (omega arith)
 
   -- ---- four values
   fifths : (v w : Float) (m k : ℕ) → Fifth v m → Fifth w k → m + k ≡ 5 → Bounded (x ⊗ v ⊕ y ⊗ w) (m * n0 + k * n1) (5 * d)
-  fifths v w m k F G s = mixed 5 m k 56 (x ⊗ v ⊕ y ⊗ w) (lit≤ tt) s (four-blend x y v w X.near.r Y.near.r m k F G X.near.val Y.near.val X.top Y.top)
+  fifths v w m k F G s = mixed 5 m k 56 (x ⊗ v ⊕ y ⊗ w) (lit≤ tt) s (four_blend x y v w X.near.r Y.near.r m k F G X.near.val Y.near.val X.top Y.top)
 
-  zero-bounded : Bounded f0 0 (5 * d)
+  zero_bounded : Bounded f0 0 (5 * d)
   unfolding of_bits
-  zero-bounded = record { r = 0; ok = of_bits-fits binary32 0; val = (refl, refl); off = none (5 * d) (2 ^ 149) (5 * d * 2 ^ 128) }
+  zero_bounded = record { r = 0; ok = of_bits-fits binary32 0; val = (refl, refl); off = none (5 * d) (2 ^ 149) (5 * d * 2 ^ 128) }
     where
       none : (d u e : ℕ) → Off (d * 0) (0 * u) e
       none d u e =
@@ -112,24 +112,24 @@ module _ (d n0 n1 : ℕ) (x y : Float) (X : End x d n0) (Y : End y d n1) where
           let q : 0 * u ≡ 0 = zero-mul u in
           omega arith
 
-  one-bounded : Bounded f1 (5 * d) (5 * d)
+  one_bounded : Bounded f1 (5 * d) (5 * d)
   unfolding of_bits
-  one-bounded = record { r = 2 ^ 149; ok = of_bits-fits binary32 0x3f80_0000; val = (refl, refl); off = none (5 * d * 2 ^ 149) (5 * d * 2 ^ 128) }
+  one_bounded = record { r = 2 ^ 149; ok = of_bits-fits binary32 0x3f80_0000; val = (refl, refl); off = none (5 * d * 2 ^ 149) (5 * d * 2 ^ 128) }
     where
       none : (x e : ℕ) → Off x x e
       none x e = omega arith
 
-  four-bounded : (k : ℕ) → k < 8 → Bounded (entry (colors x y) k) (exactFour d n0 n1 k) (5 * d)
+  four_bounded : (k : ℕ) → k < 8 → Bounded (entry (colors x y) k) (exact_four d n0 n1 k) (5 * d)
   unfolding colors
-  four-bounded zero h = first 5 (lit≤ tt) refl
-  four-bounded (suc zero) h = second 5 (lit≤ tt) refl
-  four-bounded (suc (suc zero)) h = fifths fifth4 fifth1 4 1 four-fifths one-fifth refl
-  four-bounded (suc (suc (suc zero))) h = fifths fifth3 fifth2 3 2 three-fifths two-fifths refl
-  four-bounded (suc (suc (suc (suc zero)))) h = fifths fifth2 fifth3 2 3 two-fifths three-fifths refl
-  four-bounded (suc (suc (suc (suc (suc zero))))) h = fifths fifth1 fifth4 1 4 one-fifth four-fifths refl
-  four-bounded (suc (suc (suc (suc (suc (suc zero)))))) h = zero-bounded
-  four-bounded (suc (suc (suc (suc (suc (suc (suc zero))))))) h = one-bounded
-  four-bounded (suc (suc (suc (suc (suc (suc (suc (suc k)))))))) h = absurd (omega arith)
+  four_bounded zero h = first 5 (lit≤ tt) refl
+  four_bounded (suc zero) h = second 5 (lit≤ tt) refl
+  four_bounded (suc (suc zero)) h = fifths fifth4 fifth1 4 1 four_fifths one_fifth refl
+  four_bounded (suc (suc (suc zero))) h = fifths fifth3 fifth2 3 2 three_fifths two_fifths refl
+  four_bounded (suc (suc (suc (suc zero)))) h = fifths fifth2 fifth3 2 3 two_fifths three_fifths refl
+  four_bounded (suc (suc (suc (suc (suc zero))))) h = fifths fifth1 fifth4 1 4 one_fifth four_fifths refl
+  four_bounded (suc (suc (suc (suc (suc (suc zero)))))) h = zero_bounded
+  four_bounded (suc (suc (suc (suc (suc (suc (suc zero))))))) h = one_bounded
+  four_bounded (suc (suc (suc (suc (suc (suc (suc (suc k)))))))) h = absurd (omega arith)
 
 -- ---- every value that two bytes can stand for
 module _ (snorm : Bool) (c0 c1 k : ℕ) (H0 : c0 < 256) (H1 : c1 < 256) (K : k < 8) where
@@ -137,10 +137,10 @@ module _ (snorm : Bool) (c0 c1 k : ℕ) (H0 : c0 < 256) (H1 : c1 < 256) (K : k <
   d = steps snorm
 
   abbrev n0 : ℕ
-  n0 = levelOf c0 snorm
+  n0 = level_of c0 snorm
 
   abbrev n1 : ℕ
-  n1 = levelOf c1 snorm
+  n1 = level_of c1 snorm
 
   abbrev x : Float
   x = value_of c0 snorm
@@ -148,25 +148,25 @@ module _ (snorm : Bool) (c0 c1 k : ℕ) (H0 : c0 < 256) (H1 : c1 < 256) (K : k <
   abbrev y : Float
   y = value_of c1 snorm
 
-  pub six-at : isSix c0 c1 snorm ≡ true → Bounded (entry (sixValues x y) k) (parts_of 7 n0 n1 k) (7 * d)
-  six-at e =
-      let X = end-at snorm c0 H0 in
-      let Y = end-at snorm c1 H1 in
-      six-bounded d n0 n1 x y X Y (ends-order snorm n1 n0 (six-levels snorm c0 c1 H0 H1 e) X Y) k K
+  pub six_at : is_six c0 c1 snorm ≡ true → Bounded (entry (six_values x y) k) (parts_of 7 n0 n1 k) (7 * d)
+  six_at e =
+      let X = end_at snorm c0 H0 in
+      let Y = end_at snorm c1 H1 in
+      six_bounded d n0 n1 x y X Y (ends_order snorm n1 n0 (six_levels snorm c0 c1 H0 H1 e) X Y) k K
 
-  pub value-bounded : Bounded (value_at snorm c0 c1 k) (exactNum snorm c0 c1 k) (exactDen snorm c0 c1)
-  unfolding table_of exactNum exactDen
-  value-bounded = go (isSix c0 c1 snorm) refl
+  pub value_bounded : Bounded (value_at snorm c0 c1 k) (exact_num snorm c0 c1 k) (exact_den snorm c0 c1)
+  unfolding table_of exact_num exact_den
+  value_bounded = go (is_six c0 c1 snorm) refl
     where
-      go : (six : Bool) → isSix c0 c1 snorm ≡ six
-          → Bounded (entry (cond six (sixValues x y) (colors x y)) k) (cond six (parts_of 7 n0 n1 k) (exactFour d n0 n1 k)) (cond six 7 5 * d)
-      go true e = six-at e
-      go false e = four-bounded d n0 n1 x y (end-at snorm c0 H0) (end-at snorm c1 H1) k K
+      go : (six : Bool) → is_six c0 c1 snorm ≡ six
+          → Bounded (entry (cond six (six_values x y) (colors x y)) k) (cond six (parts_of 7 n0 n1 k) (exact_four d n0 n1 k)) (cond six 7 5 * d)
+      go true e = six_at e
+      go false e = four_bounded d n0 n1 x y (end_at snorm c0 H0) (end_at snorm c1 H1) k K
 
 -- ---- by the float's bits
 close : (x : Float) (num den : ℕ) → Bounded x num den → Close x num den
 close x num den h =
-    let b = toBits-units x h.r h.ok h.val in
+    let b = to_bits_units x h.r h.ok h.val in
     let o = subst (λ (r : ℕ). Off (den * r) (num * 2 ^ 149) (den * 2 ^ 128)) (sym b.1) h.off in
     let s = apart (2 ^ 128) (magnitude (to_bits binary32 x)) num den o in
     record { sign = b.0; above = s.0; under = s.1 }
@@ -179,11 +179,11 @@ close x num den h =
         (omega arith, omega arith)
 
 -- Each value of two bytes is within the bound of its exact fraction.
-pub value-close : (snorm : Bool) (c0 c1 k : ℕ) → c0 < 256 → c1 < 256 → k < 8 → Close (value_at snorm c0 c1 k) (exactNum snorm c0 c1 k) (exactDen snorm c0 c1)
-value-close snorm c0 c1 k h0 h1 h = close (value_at snorm c0 c1 k) (exactNum snorm c0 c1 k) (exactDen snorm c0 c1) (value-bounded snorm c0 c1 k h0 h1 h)
+pub value_close : (snorm : Bool) (c0 c1 k : ℕ) → c0 < 256 → c1 < 256 → k < 8 → Close (value_at snorm c0 c1 k) (exact_num snorm c0 c1 k) (exact_den snorm c0 c1)
+value_close snorm c0 c1 k h0 h1 h = close (value_at snorm c0 c1 k) (exact_num snorm c0 c1 k) (exact_den snorm c0 c1) (value_bounded snorm c0 c1 k h0 h1 h)
 
 -- Each sample of a block is.
-pub decoded-close : (snorm : Bool) (n i : ℕ) → i < 16
-    → Close (pixelAt (decoded n snorm) i) (exactNum snorm (byte_at n 0) (byte_at n 1) (blockIndex n i)) (exactDen snorm (byte_at n 0) (byte_at n 1))
-decoded-close snorm n i h =
-    rw (decoded-at snorm n i h) (value-close snorm (byte_at n 0) (byte_at n 1) (blockIndex n i) (byte-lt n 0) (byte-lt n 1) (index-lt n i))
+pub decoded_close : (snorm : Bool) (n i : ℕ) → i < 16
+    → Close (pixel_at (decoded n snorm) i) (exact_num snorm (byte_at n 0) (byte_at n 1) (block_index n i)) (exact_den snorm (byte_at n 0) (byte_at n 1))
+decoded_close snorm n i h =
+    rw (decoded_at snorm n i h) (value_close snorm (byte_at n 0) (byte_at n 1) (block_index n i) (byte_lt n 0) (byte_lt n 1) (index_lt n i))

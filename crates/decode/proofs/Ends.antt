@@ -10,9 +10,9 @@ use lib.Dec.{T, lit≤, lit<}
 use lib.Ieee.{Float, binary32, fits}
 use Rattle.floats.specs.Arithmetic.{◌⊘◌, whole}
 use Rattle.floats.proofs.Rounding.{Off}
-use Rattle.floats.proofs.RoundedResult.{ratio, whole-at}
-use Rattle.values.specs.Values.{steps, levelOf, levelValue, value_of}
-use Rattle.values.proofs.Levels.{level-le}
+use Rattle.floats.proofs.RoundedResult.{ratio, whole_at}
+use Rattle.values.specs.Values.{steps, level_of, level_value, value_of}
+use Rattle.values.proofs.Levels.{level_le}
 use Rattle.decode.proofs.Bits.{Units}
 
 -- x is r units, and den times that is num up to e
@@ -36,23 +36,23 @@ halved t a d v o =
 
 end_of : (d n : ℕ) → 0 < d → d ≤ 2 ^ 24 → n ≤ d → End (whole n ⊘ whole d) d n
 end_of d n D L N =
-    let e = ratio (whole n) (whole d) n d 125 (lit≤ tt) D (le_trans (mul-le-mul_right (2 ^ 149) N) (le_of_eq (mul_comm d (2 ^ 149)))) (whole-at n (le_trans N L)) (whole-at d L) in
+    let e = ratio (whole n) (whole d) n d 125 (lit≤ tt) D (le_trans (mul-le-mul_right (2 ^ 149) N) (le_of_eq (mul_comm d (2 ^ 149)))) (whole_at n (le_trans N L)) (whole_at d L) in
     record { near = record { r = e.n; ok = e.ok; val = e.val; off = halved (2 ^ 123) e.n d (n * 2 ^ 149) e.off }; top = e.top }
 
 pub steps_pos : (snorm : Bool) → 0 < steps snorm
 steps_pos true = lit< tt
 steps_pos false = lit< tt
 
-pub steps-few : (snorm : Bool) → steps snorm ≤ 255
-steps-few true = lit≤ tt
-steps-few false = lit≤ tt
+pub steps_few : (snorm : Bool) → steps snorm ≤ 255
+steps_few true = lit≤ tt
+steps_few false = lit≤ tt
 
 abbrev pub EndOf : Bool → ℕ → Type 0
-EndOf snorm b = End (value_of b snorm) (steps snorm) (levelOf b snorm)
+EndOf snorm b = End (value_of b snorm) (steps snorm) (level_of b snorm)
 
-pub end-at : (snorm : Bool) (b : ℕ) → b < 256 → EndOf snorm b
-unfolding levelValue
-end-at snorm b h = end_of (steps snorm) (levelOf b snorm) (steps_pos snorm) (le_trans (steps-few snorm) (lit≤ tt)) (level-le snorm b h)
+pub end_at : (snorm : Bool) (b : ℕ) → b < 256 → EndOf snorm b
+unfolding level_value
+end_at snorm b h = end_of (steps snorm) (level_of b snorm) (steps_pos snorm) (le_trans (steps_few snorm) (lit≤ tt)) (level_le snorm b h)
 
 -- ---- order: a larger level has a larger float, for at most 2 ^ 24 steps
 apart : (t d a b n0 n1 : ℕ) → d ≤ 16777216 → n1 < n0 → Off (d * a) (n0 * (67108864 * t)) (d * (2 * t)) → Off (d * b) (n1 * (67108864 * t)) (d * (2 * t)) → d * b ≤ d * a
@@ -65,6 +65,6 @@ apart t d a b n0 n1 D h o p =
     let z : d * t ≤ 16777216 * t = mul-le-mul_right t D in
     omega arith
 
-pub ends-order : (snorm : Bool) (m n : ℕ) → m < n → (X : End (levelValue n snorm) (steps snorm) n) (Y : End (levelValue m snorm) (steps snorm) m) → Y.near.r ≤ X.near.r
-ends-order snorm m n h X Y =
-    le_of_mul-le-mul_left (apart (2 ^ 123) (steps snorm) X.near.r Y.near.r n m (le_trans (steps-few snorm) (lit≤ tt)) h X.near.off Y.near.off) (steps_pos snorm)
+pub ends_order : (snorm : Bool) (m n : ℕ) → m < n → (X : End (level_value n snorm) (steps snorm) n) (Y : End (level_value m snorm) (steps snorm) m) → Y.near.r ≤ X.near.r
+ends_order snorm m n h X Y =
+    le_of_mul-le-mul_left (apart (2 ^ 123) (steps snorm) X.near.r Y.near.r n m (le_trans (steps_few snorm) (lit≤ tt)) h X.near.off Y.near.off) (steps_pos snorm)

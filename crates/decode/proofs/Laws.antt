@@ -9,50 +9,50 @@ use native.Mathlib.Omega.{arith}
 use lib.Ieee.{Float, nan}
 use Rattle.floats.specs.Arithmetic.{◌⊕◌}
 use lib.Pow.{shr-shr}
-use Rattle.index_list.specs.Layout.{byte_at, bytes_of, fromBytes}
-use Rattle.index_list.proofs.Laws.{bits-low, from-bytesOf}
-use Rattle.block.specs.Samples.{pixelAt, perPixel}
-use Rattle.block.proofs.Fill.{length-tabulate, get_d_tabulate, tabulated}
-use Rattle.values.specs.Values.{levelOf, levelValue}
+use Rattle.index_list.specs.Layout.{byte_at, bytes_of, from_bytes}
+use Rattle.index_list.proofs.Laws.{bits_low, from_bytes_of}
+use Rattle.block.specs.Samples.{pixel_at, per_pixel}
+use Rattle.block.proofs.Fill.{length_tabulate, get_d_tabulate, tabulated}
+use Rattle.values.specs.Values.{level_of, level_value}
 use Rattle.palette.specs.Palettes.{entry}
-use Rattle.decode.specs.Meaning.{isSix, eightOf, table_of, blockIndex, picked, sampleAt, decoded}
-use Rattle.decode.specs.BlockError.{sampleError, errorTo, blockError}
+use Rattle.decode.specs.Meaning.{is_six, eight_of, table_of, block_index, picked, sample_at, decoded}
+use Rattle.decode.specs.BlockError.{sample_error, error_to, block_error}
 
-pub errorTo-more : (s v : List Float) (k : ℕ) → errorTo s v (k + 1) ≡ errorTo s v k ⊕ sampleError (pixelAt s k) (pixelAt v k)
-unfolding errorTo
-errorTo-more s v k = rw add-one
+pub error_to_more : (s v : List Float) (k : ℕ) → error_to s v (k + 1) ≡ error_to s v k ⊕ sample_error (pixel_at s k) (pixel_at v k)
+unfolding error_to
+error_to_more s v k = rw add-one
 
-pub decoded-at : (snorm : Bool) (n i : ℕ) → i < 16 → pixelAt (decoded n snorm) i ≡ sampleAt snorm n i
+pub decoded_at : (snorm : Bool) (n i : ℕ) → i < 16 → pixel_at (decoded n snorm) i ≡ sample_at snorm n i
 unfolding decoded
-decoded-at snorm n i h = get_d_tabulate (sampleAt snorm n) nan h
+decoded_at snorm n i h = get_d_tabulate (sample_at snorm n) nan h
 
 -- What is picked of the eight values of a block's two levels, as floats, are its samples.
-pub picked-decoded : (snorm : Bool) (n l0 l1 : ℕ) (e eight : List Float) (six : Bool) → l0 ≡ levelOf (n % 256) snorm → l1 ≡ levelOf (n / 2 ^ 8 % 256) snorm
-    → e ≡ levelValue l0 snorm ∷ levelValue l1 snorm ∷ [] → six ≡ isSix (n % 256) (n / 2 ^ 8 % 256) snorm → eight ≡ eightOf (entry e 0) (entry e 1) six
-    → perPixel (picked eight (n / 2 ^ 16)) ≡ decoded n snorm
+pub picked_decoded : (snorm : Bool) (n l0 l1 : ℕ) (e eight : List Float) (six : Bool) → l0 ≡ level_of (n % 256) snorm → l1 ≡ level_of (n / 2 ^ 8 % 256) snorm
+    → e ≡ level_value l0 snorm ∷ level_value l1 snorm ∷ [] → six ≡ is_six (n % 256) (n / 2 ^ 8 % 256) snorm → eight ≡ eight_of (entry e 0) (entry e 1) six
+    → per_pixel (picked eight (n / 2 ^ 16)) ≡ decoded n snorm
 unfolding decoded table_of
-picked-decoded snorm n l0 l1 e eight six e0 e1 ee es e8 =
+picked_decoded snorm n l0 l1 e eight six e0 e1 ee es e8 =
     let same : eight ≡ table_of snorm (byte_at n 0) (byte_at n 1) = rw (e8, es, ee, e0, e1, div-one) in
-    ap (λ (v : List Float). perPixel (picked v (n / 2 ^ 16))) same
+    ap (λ (v : List Float). per_pixel (picked v (n / 2 ^ 16))) same
 
-pub byte-lt : (n j : ℕ) → byte_at n j < 256
-byte-lt n j = omega arith
+pub byte_lt : (n j : ℕ) → byte_at n j < 256
+byte_lt n j = omega arith
 
-pub index-lt : (n i : ℕ) → blockIndex n i < 8
-index-lt n i = omega arith
+pub index_lt : (n i : ℕ) → block_index n i < 8
+index_lt n i = omega arith
 
 -- ---- Bits from 64 on mean nothing.
-low-index : (n i : ℕ) → i < 16 → blockIndex (n % 2 ^ 64) i ≡ blockIndex n i
-low-index n i h = rw (shr-shr, shr-shr) (bits-low n (16 + 3 * i) 3 64 (omega arith))
+low_index : (n i : ℕ) → i < 16 → block_index (n % 2 ^ 64) i ≡ block_index n i
+low_index n i h = rw (shr-shr, shr-shr) (bits_low n (16 + 3 * i) 3 64 (omega arith))
 
-low-sample : (snorm : Bool) (n i : ℕ) → i < 16 → sampleAt snorm (n % 2 ^ 64) i ≡ sampleAt snorm n i
-low-sample snorm n i h = rw (low-index n i h, bits-low n 0 8 64 (omega arith), bits-low n 8 8 64 (omega arith))
+low_sample : (snorm : Bool) (n i : ℕ) → i < 16 → sample_at snorm (n % 2 ^ 64) i ≡ sample_at snorm n i
+low_sample snorm n i h = rw (low_index n i h, bits_low n 0 8 64 (omega arith), bits_low n 8 8 64 (omega arith))
 
-pub decoded-low : (snorm : Bool) (n : ℕ) → decoded (n % 2 ^ 64) snorm ≡ decoded n snorm
+pub decoded_low : (snorm : Bool) (n : ℕ) → decoded (n % 2 ^ 64) snorm ≡ decoded n snorm
 unfolding decoded
-decoded-low snorm n = tabulated nan (sampleAt snorm n) _ (length-tabulate (sampleAt snorm (n % 2 ^ 64)) 0 16) (λ i h. rw get_d_tabulate (low-sample snorm n i h))
+decoded_low snorm n = tabulated nan (sample_at snorm n) _ (length_tabulate (sample_at snorm (n % 2 ^ 64)) 0 16) (λ i h. rw get_d_tabulate (low_sample snorm n i h))
 
 -- So a block that was laid out in bytes is read as it was.
-pub error-of-bytes : (snorm : Bool) (s : List Float) (n : ℕ) → blockError s (fromBytes (bytes_of n)) snorm ≡ blockError s n snorm
-unfolding blockError
-error-of-bytes snorm s n = rw (from-bytesOf n, decoded-low snorm n)
+pub error_of_bytes : (snorm : Bool) (s : List Float) (n : ℕ) → block_error s (from_bytes (bytes_of n)) snorm ≡ block_error s n snorm
+unfolding block_error
+error_of_bytes snorm s n = rw (from_bytes_of n, decoded_low snorm n)

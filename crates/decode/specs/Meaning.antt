@@ -1,34 +1,34 @@
 -- What eight bytes mean. Document 01, "Eight bytes". A block is one number, byte 0 lowest: byte 0 is c0, byte 1 is c1, and from bit 16 on
 -- stand the sixteen indexes, pixel i at bit 3i of these.
 use Rattle.std.specs.Prelude.{List, [], ◌∷◌, Bool, cond, ◌&&◌, ℕ, ◌/◌, ◌^◌, eqb, Float}
-use Rattle.values.specs.Values.{value_of, byteBelow}
+use Rattle.values.specs.Values.{value_of, byte_below}
 use Rattle.index_list.specs.Indexes.{index_at}
 use Rattle.index_list.specs.Layout.{byte_at}
-use Rattle.block.specs.Samples.{perPixel}
-use Rattle.palette.specs.Palettes.{entry, inter6Palette, blended, colors}
+use Rattle.block.specs.Samples.{per_pixel}
+use Rattle.palette.specs.Palettes.{entry, inter6_palette, blended, colors}
 
 -- An endpoint byte as it is compared. Document 02, 6/12: of the signed ones -128 is taken as -127.
-abbrev pub takenByte : ℕ → Bool → ℕ
-takenByte b snorm = cond (snorm && eqb b 0x80) 0x81 b
+abbrev pub taken_byte : ℕ → Bool → ℕ
+taken_byte b snorm = cond (snorm && eqb b 0x80) 0x81 b
 
 -- The mode: c0 > c1 as the bytes are taken, signed for snorm, means six values, and anything else four.
-abbrev pub isSix : ℕ → ℕ → Bool → Bool
-isSix c0 c1 snorm = byteBelow (takenByte c1 snorm) (takenByte c0 snorm) snorm
+abbrev pub is_six : ℕ → ℕ → Bool → Bool
+is_six c0 c1 snorm = byte_below (taken_byte c1 snorm) (taken_byte c0 snorm) snorm
 
 -- Six values of two ends, by index: 0 and 1 are the ends themselves, k from 2 on is 8 - k sevenths from c1 towards c0 as `closest` has it.
 -- Index 0 is not 7 sevenths of that kind, which may differ in the last bit.
-unfoldable pub sixValues : Float → Float → List Float
-sixValues c0 c1 =
-    let p = inter6Palette c0 c1 in
+unfoldable pub six_values : Float → Float → List Float
+six_values c0 c1 =
+    let p = inter6_palette c0 c1 in
     c0 ∷ c1 ∷ blended p 6 ∷ blended p 5 ∷ blended p 4 ∷ blended p 3 ∷ blended p 2 ∷ blended p 1 ∷ []
 
 -- the eight decoded floats of two ends, by index; four-value ones are the palette's entries
-abbrev pub eightOf : Float → Float → Bool → List Float
-eightOf c0 c1 six = cond six (sixValues c0 c1) (colors c0 c1)
+abbrev pub eight_of : Float → Float → Bool → List Float
+eight_of c0 c1 six = cond six (six_values c0 c1) (colors c0 c1)
 
 -- and of two bytes
 unfoldable pub table_of : Bool → ℕ → ℕ → List Float
-table_of snorm c0 c1 = eightOf (value_of c0 snorm) (value_of c1 snorm) (isSix c0 c1 snorm)
+table_of snorm c0 c1 = eight_of (value_of c0 snorm) (value_of c1 snorm) (is_six c0 c1 snorm)
 
 abbrev pub value_at : Bool → ℕ → ℕ → ℕ → Float
 value_at snorm c0 c1 k = entry (table_of snorm c0 c1) k
@@ -38,12 +38,12 @@ abbrev pub picked : List Float → ℕ → ℕ → Float
 picked eight d i = entry eight (index_at d i)
 
 -- the index of pixel i of a block
-abbrev pub blockIndex : ℕ → ℕ → ℕ
-blockIndex n i = index_at (n / 2 ^ 16) i
+abbrev pub block_index : ℕ → ℕ → ℕ
+block_index n i = index_at (n / 2 ^ 16) i
 
 -- the decoded sample of pixel i
-abbrev pub sampleAt : Bool → ℕ → ℕ → Float
-sampleAt snorm n i = picked (table_of snorm (byte_at n 0) (byte_at n 1)) (n / 2 ^ 16) i
+abbrev pub sample_at : Bool → ℕ → ℕ → Float
+sample_at snorm n i = picked (table_of snorm (byte_at n 0) (byte_at n 1)) (n / 2 ^ 16) i
 
 unfoldable pub decoded : ℕ → Bool → List Float
-decoded n snorm = perPixel (sampleAt snorm n)
+decoded n snorm = per_pixel (sample_at snorm n)

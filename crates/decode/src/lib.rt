@@ -1,9 +1,9 @@
 // Document 01, "Eight bytes" and block error. A block is one number, byte 0 lowest.
 ghost use Rattle.std.specs.Prelude.{◌≡◌, [], ◌∷◌};
-ghost use Rattle.values.specs.Values.{levelValue};
-ghost use Rattle.block.specs.Samples.{perPixel};
-ghost use Rattle.decode.specs.Meaning.{takenByte, isSix, sixValues, eightOf, picked, decoded};
-ghost use Rattle.decode.specs.BlockError.{sampleError, errorTo, blockError};
+ghost use Rattle.values.specs.Values.{level_value};
+ghost use Rattle.block.specs.Samples.{per_pixel};
+ghost use Rattle.decode.specs.Meaning.{taken_byte, is_six, six_values, eight_of, picked, decoded};
+ghost use Rattle.decode.specs.BlockError.{sample_error, error_to, block_error};
 
 use index_list::IndexList;
 use palette::inter4::Inter4Palette;
@@ -11,7 +11,7 @@ use palette::inter6::Inter6Palette;
 
 // An endpoint byte as it is compared: of the signed ones -128 is taken as -127.
 fn taken_byte(b: u8, snorm: bool) -> u8
-    ensures { result ≡ takenByte b snorm }
+    ensures { result ≡ taken_byte b snorm }
 {
     if snorm {
         if b == 0x80 {
@@ -23,13 +23,13 @@ fn taken_byte(b: u8, snorm: bool) -> u8
 
 // Whether two endpoint bytes mean six values: c0 > c1 as they are taken, signed for snorm.
 pub fn is_six(c0: u8, c1: u8, snorm: bool) -> bool
-    ensures { result ≡ isSix c0 c1 snorm }
+    ensures { result ≡ is_six c0 c1 snorm }
 {
     values::byte_below(taken_byte(c1, snorm), taken_byte(c0, snorm), snorm)
 }
 
 fn six_values(c0: f32, c1: f32) -> [f32; 8]
-    ensures { result ≡ sixValues c0 c1 }
+    ensures { result ≡ six_values c0 c1 }
 {
     let p = Inter6Palette::new(c0, c1);
     [
@@ -45,7 +45,7 @@ fn six_values(c0: f32, c1: f32) -> [f32; 8]
 }
 
 fn eight_values(c0: f32, c1: f32, six: bool) -> [f32; 8]
-    ensures { result ≡ eightOf c0 c1 six }
+    ensures { result ≡ eight_of c0 c1 six }
 {
     if six {
         return six_values(c0, c1);
@@ -56,7 +56,7 @@ fn eight_values(c0: f32, c1: f32, six: bool) -> [f32; 8]
 
 // Eight values looked up sixteen times.
 fn look_up(list: IndexList, eight: [f32; 8], out: &mut [f32; 16])
-    ensures { out.new ≡ perPixel (picked eight list.data) }
+    ensures { out.new ≡ per_pixel (picked eight list.data) }
 {
     let mut samples = [0.0f32; 16];
     for i in 0..16usize {
@@ -69,7 +69,7 @@ fn look_up(list: IndexList, eight: [f32; 8], out: &mut [f32; 16])
 // The floats of two levels, both by one conversion: that of a single number keeps the rest of its register, and so waits for what the block before it
 // left there.
 fn end_values(l0: u8, l1: u8, snorm: bool) -> [f32; 2]
-    ensures { result ≡ levelValue l0 snorm ∷ levelValue l1 snorm ∷ [] }
+    ensures { result ≡ level_value l0 snorm ∷ level_value l1 snorm ∷ [] }
 {
     let levels = [l0, l1];
     let mut floats = [0.0f32; 2];
@@ -96,14 +96,14 @@ pub fn decode_into(block: u64, snorm: bool, out: &mut [f32; 16])
 }
 
 fn sample_error(sample: f32, value: f32) -> f32
-    ensures { result ≡ sampleError sample value }
+    ensures { result ≡ sample_error sample value }
 {
     let d = floats::entry_clamp(sample) - value;
     d * d
 }
 
 fn error_sum(samples: &[f32; 16], values: &[f32; 16]) -> f32
-    ensures { result ≡ errorTo samples.now values.now 16 }
+    ensures { result ≡ error_to samples.now values.now 16 }
 {
     let mut sum = 0.0f32;
     for i in 0..16usize {
@@ -113,7 +113,7 @@ fn error_sum(samples: &[f32; 16], values: &[f32; 16]) -> f32
 }
 
 pub fn block_error(samples: &[f32; 16], block: u64, snorm: bool) -> f32
-    ensures { result ≡ blockError samples.now block snorm }
+    ensures { result ≡ block_error samples.now block snorm }
 {
     let mut values = [0.0f32; 16];
     decode_into(block, snorm, &mut values);

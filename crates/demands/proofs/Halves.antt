@@ -8,64 +8,64 @@ use lib.ListN.{length, length-take, length-drop}
 use lib.Ieee.{Float}
 use borrow.Author.Tests.{eq-eqb}
 use Rattle.options.specs.declared.Options.{Options}
-use Rattle.place.specs.Place.{bc4Size, bc5Size}
+use Rattle.place.specs.Place.{bc4_size, bc5_size}
 use Rattle.refusal.specs.declared.Checked.TheVariants.{Passed}
-use Rattle.refusal.specs.Refusals.{first_of, countCheck, nanCheck, decodeChecks as oneDecodeChecks, encodeChecks as oneEncodeChecks, errorChecks as oneErrorChecks, resendChecks as oneResendChecks}
-use Rattle.refusal.proofs.Firsts.{first-clear, clear-passed, same_of}
-use Rattle.bc5.specs.Checks.{encodeChecks, decodeChecks, errorChecks, resendChecks}
-use Rattle.bc5.specs.Calls.{firstHalf, secondHalf}
+use Rattle.refusal.specs.Refusals.{first_of, count_check, nan_check, decode_checks as one_decode_checks, encode_checks as one_encode_checks, error_checks as one_error_checks, resend_checks as one_resend_checks}
+use Rattle.refusal.proofs.Firsts.{first_clear, clear_passed, same_of}
+use Rattle.bc5.specs.Checks.{encode_checks, decode_checks, error_checks, resend_checks}
+use Rattle.bc5.specs.Calls.{first_half, second_half}
 
 abbrev Eight : List ℕ → Type 0
-Eight half = length half ≡ bc4Size
+Eight half = length half ≡ bc4_size
 
-halves-eight : (encoded : List ℕ) → length encoded ≡ bc5Size → Eight (firstHalf encoded) × Eight (secondHalf encoded)
-halves-eight encoded long = (simp length-take (omega arith), simp (length-take, length-drop) (omega arith))
+halves_eight : (encoded : List ℕ) → length encoded ≡ bc5_size → Eight (first_half encoded) × Eight (second_half encoded)
+halves_eight encoded long = (simp length-take (omega arith), simp (length-take, length-drop) (omega arith))
 
 -- ---- one channel
-one-decode : (half : List ℕ) → Eight half → first_of (oneDecodeChecks half) ≡ Passed
-one-decode half long = clear-passed (oneDecodeChecks half) (ap not (eq-eqb _ _ long), tt)
+one_decode : (half : List ℕ) → Eight half → first_of (one_decode_checks half) ≡ Passed
+one_decode half long = clear_passed (one_decode_checks half) (ap not (eq-eqb _ _ long), tt)
 
-module _ (s : List Float) (count : (countCheck s 16).applies ≡ false) (real : (nanCheck s).applies ≡ false) where
-  one-encode : first_of (oneEncodeChecks s) ≡ Passed
-  one-encode = clear-passed (oneEncodeChecks s) (count, (real, tt))
+module _ (s : List Float) (count : (count_check s 16).applies ≡ false) (real : (nan_check s).applies ≡ false) where
+  one_encode : first_of (one_encode_checks s) ≡ Passed
+  one_encode = clear_passed (one_encode_checks s) (count, (real, tt))
 
-  one-error : (half : List ℕ) → Eight half → first_of (oneErrorChecks s half) ≡ Passed
-  one-error half long = clear-passed (oneErrorChecks s half) (count, (ap not (eq-eqb _ _ long), (real, tt)))
+  one_error : (half : List ℕ) → Eight half → first_of (one_error_checks s half) ≡ Passed
+  one_error half long = clear_passed (one_error_checks s half) (count, (ap not (eq-eqb _ _ long), (real, tt)))
 
-  one-resend : (half : List ℕ) → Eight half → (o : Options) → o.dither ≡ false → first_of (oneResendChecks s half o) ≡ Passed
-  one-resend half long o plain = clear-passed (oneResendChecks s half o) (count, (ap not (eq-eqb _ _ long), (plain, (real, tt))))
+  one_resend : (half : List ℕ) → Eight half → (o : Options) → o.dither ≡ false → first_of (one_resend_checks s half o) ≡ Passed
+  one_resend half long o plain = clear_passed (one_resend_checks s half o) (count, (ap not (eq-eqb _ _ long), (plain, (real, tt))))
 
 -- ---- both, by call
-pub decode-each : (encoded : List ℕ) → first_of (decodeChecks encoded) ≡ Passed
-    → (first_of (oneDecodeChecks (firstHalf encoded)) ≡ Passed) × (first_of (oneDecodeChecks (secondHalf encoded)) ≡ Passed)
-decode-each encoded passed =
-    let eight = halves-eight encoded (same_of _ _ (first-clear (decodeChecks encoded) passed).0) in
-    (one-decode (firstHalf encoded) eight.0, one-decode (secondHalf encoded) eight.1)
+pub decode_each : (encoded : List ℕ) → first_of (decode_checks encoded) ≡ Passed
+    → (first_of (one_decode_checks (first_half encoded)) ≡ Passed) × (first_of (one_decode_checks (second_half encoded)) ≡ Passed)
+decode_each encoded passed =
+    let eight = halves_eight encoded (same_of _ _ (first_clear (decode_checks encoded) passed).0) in
+    (one_decode (first_half encoded) eight.0, one_decode (second_half encoded) eight.1)
 
 module _ (first second : List Float) where
-  pub encode-each : first_of (encodeChecks first second) ≡ Passed → (first_of (oneEncodeChecks first) ≡ Passed) × (first_of (oneEncodeChecks second) ≡ Passed)
-  encode-each passed =
-      let c = first-clear (encodeChecks first second) passed in
-      (one-encode first c.0 c.1.1.0, one-encode second c.1.0 c.1.1.1.0)
+  pub encode_each : first_of (encode_checks first second) ≡ Passed → (first_of (one_encode_checks first) ≡ Passed) × (first_of (one_encode_checks second) ≡ Passed)
+  encode_each passed =
+      let c = first_clear (encode_checks first second) passed in
+      (one_encode first c.0 c.1.1.0, one_encode second c.1.0 c.1.1.1.0)
 
   -- and the other way round
-  pub encode-both : first_of (oneEncodeChecks first) ≡ Passed → first_of (oneEncodeChecks second) ≡ Passed → first_of (encodeChecks first second) ≡ Passed
-  encode-both p q =
-      let c = first-clear (oneEncodeChecks first) p in
-      let d = first-clear (oneEncodeChecks second) q in
-      clear-passed (encodeChecks first second) (c.0, (d.0, (c.1.0, (d.1.0, tt))))
+  pub encode_both : first_of (one_encode_checks first) ≡ Passed → first_of (one_encode_checks second) ≡ Passed → first_of (encode_checks first second) ≡ Passed
+  encode_both p q =
+      let c = first_clear (one_encode_checks first) p in
+      let d = first_clear (one_encode_checks second) q in
+      clear_passed (encode_checks first second) (c.0, (d.0, (c.1.0, (d.1.0, tt))))
 
-  pub error-each : (encoded : List ℕ) → first_of (errorChecks first second encoded) ≡ Passed
-      → (first_of (oneErrorChecks first (firstHalf encoded)) ≡ Passed) × (first_of (oneErrorChecks second (secondHalf encoded)) ≡ Passed)
-  error-each encoded passed =
-      let c = first-clear (errorChecks first second encoded) passed in
-      let eight = halves-eight encoded (same_of _ _ c.1.1.0) in
-      (one-error first c.0 c.1.1.1.0 (firstHalf encoded) eight.0, one-error second c.1.0 c.1.1.1.1.0 (secondHalf encoded) eight.1)
+  pub error_each : (encoded : List ℕ) → first_of (error_checks first second encoded) ≡ Passed
+      → (first_of (one_error_checks first (first_half encoded)) ≡ Passed) × (first_of (one_error_checks second (second_half encoded)) ≡ Passed)
+  error_each encoded passed =
+      let c = first_clear (error_checks first second encoded) passed in
+      let eight = halves_eight encoded (same_of _ _ c.1.1.0) in
+      (one_error first c.0 c.1.1.1.0 (first_half encoded) eight.0, one_error second c.1.0 c.1.1.1.1.0 (second_half encoded) eight.1)
 
-  pub resend-each : (held : List ℕ) (o : Options) → first_of (resendChecks first second held o) ≡ Passed
-      → (first_of (oneResendChecks first (firstHalf held) o) ≡ Passed) × (first_of (oneResendChecks second (secondHalf held) o) ≡ Passed)
-  resend-each held o passed =
-      let c = first-clear (resendChecks first second held o) passed in
-      let eight = halves-eight held (same_of _ _ c.1.1.0) in
+  pub resend_each : (held : List ℕ) (o : Options) → first_of (resend_checks first second held o) ≡ Passed
+      → (first_of (one_resend_checks first (first_half held) o) ≡ Passed) × (first_of (one_resend_checks second (second_half held) o) ≡ Passed)
+  resend_each held o passed =
+      let c = first_clear (resend_checks first second held o) passed in
+      let eight = halves_eight held (same_of _ _ c.1.1.0) in
       let plain = c.1.1.1.0 in
-      (one-resend first c.0 c.1.1.1.1.0 (firstHalf held) eight.0 o plain, one-resend second c.1.0 c.1.1.1.1.1.0 (secondHalf held) eight.1 o plain)
+      (one_resend first c.0 c.1.1.1.1.0 (first_half held) eight.0 o plain, one_resend second c.1.0 c.1.1.1.1.1.0 (second_half held) eight.1 o plain)

@@ -28,10 +28,10 @@ together end more = more
 together (then same rest) more = then same (together rest more)
 
 -- Those of a first list, and then others, of which more can be said where none of the first applies.
-pub exactly-then : {cs : List Check} {Cs : List Condition} (ds : List Check) {Ds : List Condition} → Alike cs Cs → (first_of cs ≡ Passed → Exactly (first_of ds) Ds) → Exactly (first_of (cs ++ ds)) (Cs ++ Ds)
+pub exactly_then : {cs : List Check} {Cs : List Condition} (ds : List Check) {Ds : List Condition} → Alike cs Cs → (first_of cs ≡ Passed → Exactly (first_of ds) Ds) → Exactly (first_of (cs ++ ds)) (Cs ++ Ds)
 unfolding first_of
-exactly-then ds end more = more refl
-exactly-then ds {Ds} (then {c} {C} {cs} {Cs} same rest) more = go c.applies refl (λ t. exactly-then ds rest (λ p. more (rw t p)))
+exactly_then ds end more = more refl
+exactly_then ds {Ds} (then {c} {C} {cs} {Cs} same rest) more = go c.applies refl (λ t. exactly_then ds rest (λ p. more (rw t p)))
   where
     go : (t : Bool) → c.applies ≡ t → (c.applies ≡ false → Exactly (first_of (cs ++ ds)) (Cs ++ Ds)) → Exactly (cond t (Refused c.refusal) (first_of (cs ++ ds))) (C ∷ (Cs ++ Ds))
     go true t rest =
@@ -53,7 +53,7 @@ no_more = record { refused = λ q. (λ e. apart (sym e), λ x. absurd x); passed
 
 pub exactly : {cs : List Check} {Cs : List Condition} → Alike cs Cs → Exactly (first_of cs) Cs
 unfolding first_of
-exactly {cs} {Cs} alike = rw (append-nil cs, append-nil Cs) at (exactly-then [] alike (λ p. no_more))
+exactly {cs} {Cs} alike = rw (append-nil cs, append-nil Cs) at (exactly_then [] alike (λ p. no_more))
 
 -- ---- the numbers do not descend, from n on
 abbrev pub ascends : ℕ → List Check → Bool
@@ -64,25 +64,25 @@ module _ (n : ℕ) (c : Check) (cs : List Check) (a : T (ascends n (c ∷ cs))) 
   first_above : n ≤ number_of c.refusal
   first_above = lit≤ (both_left (leb n (number_of c.refusal)) (ascends (number_of c.refusal) cs) a)
 
-  rest-ascends : T (ascends (number_of c.refusal) cs)
-  rest-ascends = both_right (leb n (number_of c.refusal)) (ascends (number_of c.refusal) cs) a
+  rest_ascends : T (ascends (number_of c.refusal) cs)
+  rest_ascends = both_right (leb n (number_of c.refusal)) (ascends (number_of c.refusal) cs) a
 
 above : {cs : List Check} {Cs : List Condition} → Alike cs Cs → (n : ℕ) (p : Refusal) → T (ascends n cs) → AnyOf Cs p → n ≤ number_of p
 above end n p a h = absurd h
 above (then {c} {C} {cs} same rest) n p a (inl x) = rw ((same p).1 x).0 (first_above n c cs a)
 above (then {c} {C} {cs} same rest) n p a (inr y) =
-    let later = above rest (number_of c.refusal) p (rest-ascends n c cs a) y in
+    let later = above rest (number_of c.refusal) p (rest_ascends n c cs a) y in
     let here = first_above n c cs a in
     omega arith
 
 lowest : {cs : List Check} {Cs : List Condition} → Alike cs Cs → (n : ℕ) (q p : Refusal) → T (ascends n cs) → first_of cs ≡ Refused q → AnyOf Cs p → number_of q ≤ number_of p
 unfolding first_of
 lowest end n q p a e h = absurd h
-lowest (then {c} {C} {cs} {Cs} same rest) n q p a e h = go c.applies refl e h (lowest rest (number_of c.refusal) q p (rest-ascends n c cs a))
+lowest (then {c} {C} {cs} {Cs} same rest) n q p a e h = go c.applies refl e h (lowest rest (number_of c.refusal) q p (rest_ascends n c cs a))
   where
     go : (t : Bool) → c.applies ≡ t → cond t (Refused c.refusal) (first_of cs) ≡ Refused q → AnyOf (C ∷ Cs) p → (first_of cs ≡ Refused q → AnyOf Cs p → number_of q ≤ number_of p) → number_of q ≤ number_of p
     go true t e (inl x) later = let s : number_of q ≡ number_of p = cc ((same p).1 x).0 in omega arith
-    go true t e (inr y) later = let s : number_of q ≡ number_of c.refusal = cc in let u = above rest (number_of c.refusal) p (rest-ascends n c cs a) y in omega arith
+    go true t e (inr y) later = let s : number_of q ≡ number_of c.refusal = cc in let u = above rest (number_of c.refusal) p (rest_ascends n c cs a) y in omega arith
     go false t e (inl x) later = absurd (clash ((same p).1 x).1 t)
     go false t e (inr y) later = later e y
 

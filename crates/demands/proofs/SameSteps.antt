@@ -4,27 +4,27 @@ use mathlib.Core.Bool.{Bool}
 use Prim.Native.Nat.{ℕ}
 use lib.Dec.{T, ltb, ltb→lt}
 use Rattle.floats.proofs.Table.{both, both_left, both_right, all, at}
-use Rattle.compress.specs.Network.{stepsFrom}
-use Rattle.compress.proofs.Steps.{step-exchanges}
-use Rattle.compress.proofs.SortedPlaces.{sorted-le, sorted-place, sorted-ordered}
-use Rattle.demands.specs.SameSteps.{stepAt, SameSteps}
+use Rattle.compress.specs.Network.{steps_from}
+use Rattle.compress.proofs.Steps.{step_exchanges}
+use Rattle.compress.proofs.SortedPlaces.{sorted_le, sorted_place, sorted_ordered}
+use Rattle.demands.specs.SameSteps.{step_at, SameSteps}
 
-twoPlaces : ℕ → Bool
-twoPlaces n = both (ltb (stepAt n).i (stepAt n).j) (ltb (stepAt n).j 16)
+two_places : ℕ → Bool
+two_places n = both (ltb (step_at n).i (step_at n).j) (ltb (step_at n).j 16)
 
-every_two : T (all twoPlaces 63)
-unfolding twoPlaces stepsFrom
+every_two : T (all two_places 63)
+unfolding two_places steps_from
 every_two = tt
 
-pub same-steps : SameSteps
-unfolding twoPlaces stepsFrom
-same-steps = record {
+pub same_steps : SameSteps
+unfolding two_places steps_from
+same_steps = record {
   number = refl;
-  two-places = λ n h.
-      let t = at twoPlaces 63 every_two n h in
-      (ltb→lt _ _ (both_left (ltb (stepAt n).i (stepAt n).j) (ltb (stepAt n).j 16) t), ltb→lt _ _ (both_right (ltb (stepAt n).i (stepAt n).j) (ltb (stepAt n).j 16) t));
-  exchange = step-exchanges;
-  in_order = sorted-ordered;
-  places = sorted-le;
-  place = λ b s k h o. sorted-place b k h o;
+  two_places_lem = λ n h.
+      let t = at two_places 63 every_two n h in
+      (ltb→lt _ _ (both_left (ltb (step_at n).i (step_at n).j) (ltb (step_at n).j 16) t), ltb→lt _ _ (both_right (ltb (step_at n).i (step_at n).j) (ltb (step_at n).j 16) t));
+  exchange = step_exchanges;
+  in_order = sorted_ordered;
+  places = sorted_le;
+  place = λ b s k h o. sorted_place b k h o;
 }

@@ -1,7 +1,7 @@
 -- The conditions of the documents' tables, in their words: over lengths, numbers and bytes, not the tests of the code.
 use Rattle.std.specs.Prelude.{◌≡◌, true, false, ◌⊎◌, List, [], ◌∷◌, ℕ, ◌+◌, ◌-◌, ◌*◌, ◌/◌, ◌%◌, ◌^◌, ◌<◌, ◌≤◌, length, Float}
 use Rattle.std.specs.Float.Ieee.{is_nan}
-use Rattle.block.specs.Samples.{pixelAt}
+use Rattle.block.specs.Samples.{pixel_at}
 use Rattle.fields.specs.Fields.{field_at}
 use Rattle.refusal.specs.declared.Refusal.{Refusal}
 use Rattle.refusal.specs.declared.Refusal.TheVariants.{SideIsZero, SampleIsNan, TileSampleIsNan, SideTooLarge, SideNotMultipleOf4, DdsHeader}
@@ -23,8 +23,8 @@ Missing width height column row = (width / 4 ≤ column) ⊎ (height / 4 ≤ row
 -- 7, with the lowest index
 pub record LowestNan (samples : List Float) (i : ℕ) : Type 0 where
   pub within : i < length samples
-  pub there : is_nan (pixelAt samples i) ≡ true
-  pub none-lower : (j : ℕ) → j < i → is_nan (pixelAt samples j) ≡ false
+  pub there : is_nan (pixel_at samples i) ≡ true
+  pub none_lower : (j : ℕ) → j < i → is_nan (pixel_at samples j) ≡ false
 
 -- 8, quality and last being bytes 2 and 3 of the word
 abbrev pub BadWord : ℕ → ℕ → Type 0
@@ -52,7 +52,7 @@ SizeRefuses width height =
 pub record LowestTileNan (samples : List Float) (width height : ℕ) (spot : Spot) : Type 0 where
   pub lowest : LowestNan samples spot.index
   pub place : spot.index ≡ spot.row * width + spot.column
-  pub column-within : spot.column < width
+  pub column_within : spot.column < width
   pub row_within : spot.row < height
 
 abbrev pub WhenTileNanSaid : (Spot → Refusal) → List Float → ℕ → ℕ → Condition

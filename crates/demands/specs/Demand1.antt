@@ -9,18 +9,18 @@ use Rattle.refusal.specs.declared.Field.TheVariants.{Header, Extension, Magic, H
 use Rattle.refusal.specs.declared.Checked.TheVariants.{Refused}
 use Rattle.bc4.specs.declared.Tiled.TheVariants.{Refused as NotTiled}
 use Rattle.dds.specs.declared.Written.TheVariants.{Refused as NotWritten}
-use Rattle.refusal.specs.Refusals.{first_of, decodeChecks, viewChecks}
-use Rattle.bc4.specs.Word.{word_of, encodeByWord, resendByWord, tileByWord}
-use Rattle.bc4.specs.Calls.{ofEncoded, ofScored, ofResent, ofTiled, encodeAnswer, samplesAfter, errorAnswer, resendAnswer, tileAnswer, outAfter, view_of}
-use Rattle.bc5.specs.Checks.{decodeChecks as pairDecodeChecks, viewChecks as pairViewChecks}
-use Rattle.bc5.specs.Word.{encodeByWord as pairEncodeByWord, resendByWord as pairResendByWord, tileByWord as pairTileByWord}
-use Rattle.bc5.specs.Calls.{ofEncoded as ofPairEncoded, ofScored as ofPairScored, ofResent as ofPairResent, encodeAnswer as pairEncodeAnswer, errorAnswer as pairErrorAnswer, resendAnswer as pairResendAnswer, tileAnswer as pairTileAnswer, outAfter as pairOutAfter, view_of as pairViewOf}
-use Rattle.dds.specs.Layout.{ddsMagic, bc4u, bc4s, dx10}
-use Rattle.dds.specs.Checks.{readChecks}
-use Rattle.dds.specs.Calls.{ofWritten, ofFound, writeAnswer, fileAfter, readAnswer, body_of}
+use Rattle.refusal.specs.Refusals.{first_of, decode_checks, view_checks}
+use Rattle.bc4.specs.Word.{word_of, encode_by_word, resend_by_word, tile_by_word}
+use Rattle.bc4.specs.Calls.{of_encoded, of_scored, of_resent, of_tiled, encode_answer, samples_after, error_answer, resend_answer, tile_answer, out_after, view_of}
+use Rattle.bc5.specs.Checks.{decode_checks as pair_decode_checks, view_checks as pair_view_checks}
+use Rattle.bc5.specs.Word.{encode_by_word as pair_encode_by_word, resend_by_word as pair_resend_by_word, tile_by_word as pair_tile_by_word}
+use Rattle.bc5.specs.Calls.{of_encoded as of_pair_encoded, of_scored as of_pair_scored, of_resent as of_pair_resent, encode_answer as pair_encode_answer, error_answer as pair_error_answer, resend_answer as pair_resend_answer, tile_answer as pair_tile_answer, out_after as pair_out_after, view_of as pair_view_of}
+use Rattle.dds.specs.Layout.{dds_magic, bc4u, bc4s, dx10}
+use Rattle.dds.specs.Checks.{read_checks}
+use Rattle.dds.specs.Calls.{of_written, of_found, write_answer, file_after, read_answer, body_of}
 use Rattle.station.specs.declared.Received.TheVariants.{Refused as NotReceived}
 use Rattle.station.specs.Editions.{Message, Held, entry_at, bytes_at}
-use Rattle.station.specs.Receiving.{ofReceived, receiveAnswer, tileAfter, editionsAfter}
+use Rattle.station.specs.Receiving.{of_received, receive_answer, tile_after, editions_after}
 use Rattle.demands.specs.Exactly.{Condition, When, WhenUnequal, Exactly, InNumberOrder}
 use Rattle.demands.specs.Conditions.{Missing, BadWord, WhenNan, SizeRefuses, WhenTileNan, field, four, WhenWrong, NoneOf, CubeFace, BadBody, Reused, Opposite}
 use Rattle.demands.specs.Channels.{PairEncodeRefuses, PairDecodeRefuses, PairErrorRefuses, PairResendRefuses, PairTileRefuses, PairViewRefuses}
@@ -66,7 +66,7 @@ WriteRefuses tile width height out =
 abbrev pub ReadRefuses : List ℕ → List Condition
 ReadRefuses file =
     WhenWrong Header (length file < 128) ∷ WhenWrong Extension ((four file ≡ dx10) × (length file < 148))
-    ∷ WhenWrong Magic (field file 0 ≡ ddsMagic → ⊥) ∷ WhenWrong HeaderSize (field file 4 ≡ 124 → ⊥)
+    ∷ WhenWrong Magic (field file 0 ≡ dds_magic → ⊥) ∷ WhenWrong HeaderSize (field file 4 ≡ 124 → ⊥)
     ∷ WhenWrong FourCharacters (NoneOf (four file) (bc4u ∷ bc4s ∷ dx10 ∷ [])) ∷ WhenWrong ExtensionFormat ((four file ≡ dx10) × NoneOf (field file 128) (80 ∷ 81 ∷ []))
     ∷ WhenWrong MipCount (1 < field file 28) ∷ WhenWrong Depth (1 < field file 24) ∷ WhenWrong CubeFaces (CubeFace (field file 112))
     ∷ WhenWrong ArraySize ((four file ≡ dx10) × (field file 140 ≡ 1 → ⊥))
@@ -82,64 +82,64 @@ ReceiveRefuses held width height m =
     ∷ When EditionOpposite (Opposite (entry_at held width m.column m.row) m.edition) ∷ []
 
 pub record Demand1 : Type 0 where
-  pub encode : (samples : List Float) (o : Options) → InNumberOrder (ofEncoded (encodeAnswer samples o)) (EncodeRefuses samples)
-  pub decode : (encoded : List ℕ) → InNumberOrder (first_of (decodeChecks encoded)) (DecodeRefuses encoded)
-  pub error : (samples : List Float) (encoded : List ℕ) (snorm : Bool) → InNumberOrder (ofScored (errorAnswer samples encoded snorm)) (ErrorRefuses samples encoded)
-  pub resend : (samples : List Float) (held : List ℕ) (o : Options) → InNumberOrder (ofResent (resendAnswer samples held o)) (ResendRefuses samples held o)
+  pub encode : (samples : List Float) (o : Options) → InNumberOrder (of_encoded (encode_answer samples o)) (EncodeRefuses samples)
+  pub decode : (encoded : List ℕ) → InNumberOrder (first_of (decode_checks encoded)) (DecodeRefuses encoded)
+  pub error : (samples : List Float) (encoded : List ℕ) (snorm : Bool) → InNumberOrder (of_scored (error_answer samples encoded snorm)) (ErrorRefuses samples encoded)
+  pub resend : (samples : List Float) (held : List ℕ) (o : Options) → InNumberOrder (of_resent (resend_answer samples held o)) (ResendRefuses samples held o)
   -- where there is a size, 9 and 10 come straight after 1, and so before 2
   pub tile : (samples : List Float) (width height : ℕ) (out : List ℕ)
-      → Exactly (ofTiled (tileAnswer samples width height (length out))) (TileRefuses samples width height out)
+      → Exactly (of_tiled (tile_answer samples width height (length out))) (TileRefuses samples width height out)
   pub view : (tile : List ℕ) (width height column row : ℕ)
-      → Exactly (first_of (viewChecks (length tile) width height column row)) (ViewRefuses tile width height column row)
+      → Exactly (first_of (view_checks (length tile) width height column row)) (ViewRefuses tile width height column row)
   -- the calls that take a word, for every four bytes; the program has the first of them
-  pub encode-word : (samples : List Float) (flags limit quality last : ℕ)
-      → InNumberOrder (ofEncoded (encodeByWord samples (word_of flags limit quality last))) (ThenBadWord (EncodeRefuses samples) quality last)
-  pub resend-word : (samples : List Float) (held : List ℕ) (flags limit quality last : ℕ)
+  pub encode_word : (samples : List Float) (flags limit quality last : ℕ)
+      → InNumberOrder (of_encoded (encode_by_word samples (word_of flags limit quality last))) (ThenBadWord (EncodeRefuses samples) quality last)
+  pub resend_word : (samples : List Float) (held : List ℕ) (flags limit quality last : ℕ)
       → let w = word_of flags limit quality last in
-      InNumberOrder (ofResent (resendByWord samples held w)) (ThenBadWord (ResendRefuses samples held w.options) quality last)
-  pub tile-word : (samples : List Float) (width height : ℕ) (out : List ℕ) (flags limit quality last : ℕ)
-      → Exactly (ofTiled (tileByWord samples width height (word_of flags limit quality last) (length out)))
+      InNumberOrder (of_resent (resend_by_word samples held w)) (ThenBadWord (ResendRefuses samples held w.options) quality last)
+  pub tile_word : (samples : List Float) (width height : ℕ) (out : List ℕ) (flags limit quality last : ℕ)
+      → Exactly (of_tiled (tile_by_word samples width height (word_of flags limit quality last) (length out)))
       (ThenBadWord (TileRefuses samples width height out) quality last)
   -- two channels
-  pub pair-encode : (first second : List Float) (o : Options) → InNumberOrder (ofPairEncoded (pairEncodeAnswer first second o)) (PairEncodeRefuses first second)
-  pub pair-decode : (encoded : List ℕ) → InNumberOrder (first_of (pairDecodeChecks encoded)) (PairDecodeRefuses encoded)
-  pub pair-error : (first second : List Float) (encoded : List ℕ) (snorm : Bool)
-      → InNumberOrder (ofPairScored (pairErrorAnswer first second encoded snorm)) (PairErrorRefuses first second encoded)
-  pub pair-resend : (first second : List Float) (held : List ℕ) (o : Options)
-      → InNumberOrder (ofPairResent (pairResendAnswer first second held o)) (PairResendRefuses first second held o)
-  pub pair-tile : (first second : List Float) (width height : ℕ) (out : List ℕ)
-      → Exactly (ofTiled (pairTileAnswer first second width height (length out))) (PairTileRefuses first second width height out)
-  pub pair-view : (tile : List ℕ) (width height column row : ℕ)
-      → Exactly (first_of (pairViewChecks (length tile) width height column row)) (PairViewRefuses tile width height column row)
-  pub pair-encode-word : (first second : List Float) (flags limit quality last : ℕ)
-      → InNumberOrder (ofPairEncoded (pairEncodeByWord first second (word_of flags limit quality last))) (ThenBadWord (PairEncodeRefuses first second) quality last)
-  pub pair-resend-word : (first second : List Float) (held : List ℕ) (flags limit quality last : ℕ)
+  pub pair_encode : (first second : List Float) (o : Options) → InNumberOrder (of_pair_encoded (pair_encode_answer first second o)) (PairEncodeRefuses first second)
+  pub pair_decode : (encoded : List ℕ) → InNumberOrder (first_of (pair_decode_checks encoded)) (PairDecodeRefuses encoded)
+  pub pair_error_lem : (first second : List Float) (encoded : List ℕ) (snorm : Bool)
+      → InNumberOrder (of_pair_scored (pair_error_answer first second encoded snorm)) (PairErrorRefuses first second encoded)
+  pub pair_resend : (first second : List Float) (held : List ℕ) (o : Options)
+      → InNumberOrder (of_pair_resent (pair_resend_answer first second held o)) (PairResendRefuses first second held o)
+  pub pair_tile : (first second : List Float) (width height : ℕ) (out : List ℕ)
+      → Exactly (of_tiled (pair_tile_answer first second width height (length out))) (PairTileRefuses first second width height out)
+  pub pair_view : (tile : List ℕ) (width height column row : ℕ)
+      → Exactly (first_of (pair_view_checks (length tile) width height column row)) (PairViewRefuses tile width height column row)
+  pub pair_encode_word : (first second : List Float) (flags limit quality last : ℕ)
+      → InNumberOrder (of_pair_encoded (pair_encode_by_word first second (word_of flags limit quality last))) (ThenBadWord (PairEncodeRefuses first second) quality last)
+  pub pair_resend_word : (first second : List Float) (held : List ℕ) (flags limit quality last : ℕ)
       → let w = word_of flags limit quality last in
-      InNumberOrder (ofPairResent (pairResendByWord first second held w)) (ThenBadWord (PairResendRefuses first second held w.options) quality last)
-  pub pair-tile-word : (first second : List Float) (width height : ℕ) (out : List ℕ) (flags limit quality last : ℕ)
-      → Exactly (ofTiled (pairTileByWord first second width height (word_of flags limit quality last) (length out)))
+      InNumberOrder (of_pair_resent (pair_resend_by_word first second held w)) (ThenBadWord (PairResendRefuses first second held w.options) quality last)
+  pub pair_tile_word : (first second : List Float) (width height : ℕ) (out : List ℕ) (flags limit quality last : ℕ)
+      → Exactly (of_tiled (pair_tile_by_word first second width height (word_of flags limit quality last) (length out)))
       (ThenBadWord (PairTileRefuses first second width height out) quality last)
   -- DDS files
-  pub write-dds : (tile : List ℕ) (width height : ℕ) (out : List ℕ)
-      → Exactly (ofWritten (writeAnswer (length tile) width height (length out))) (WriteRefuses tile width height out)
-  pub read-dds : (file : List ℕ) → Exactly (ofFound (readAnswer file)) (ReadRefuses file)
+  pub write_dds : (tile : List ℕ) (width height : ℕ) (out : List ℕ)
+      → Exactly (of_written (write_answer (length tile) width height (length out))) (WriteRefuses tile width height out)
+  pub read_dds : (file : List ℕ) → Exactly (of_found (read_answer file)) (ReadRefuses file)
   -- the companion of a read tells the same refusal
-  pub read-dds-refusal : (file : List ℕ) → first_of (readChecks file) ≡ ofFound (readAnswer file)
+  pub read_dds_refusal : (file : List ℕ) → first_of (read_checks file) ≡ of_found (read_answer file)
   -- a station; a clear refuses nothing
-  pub receive : (held : Held) (width height : ℕ) (m : Message) → Exactly (ofReceived (receiveAnswer held width height m)) (ReceiveRefuses held width height m)
-  -- a refused call leaves lent memory as it was, a tile call by word too (`outAfter` of the word's options), and a refused view is empty;
-  -- `decode-leaves` is for both channels' arrays too
-  pub decode-leaves : (q : Refusal) (encoded : List ℕ) (snorm : Bool) (before : List Float) → samplesAfter (Refused q) encoded snorm before ≡ before
-  pub tile-leaves : (q : Refusal) (samples : List Float) (width height : ℕ) (o : Options) (before : List ℕ)
-      → outAfter (NotTiled q) samples width height o before ≡ before
-  pub view-empty : (q : Refusal) (tile : List ℕ) (width height column row : ℕ)
-      → first_of (viewChecks (length tile) width height column row) ≡ Refused q → view_of tile width height column row ≡ []
-  pub pair-tile-leaves : (q : Refusal) (first second : List Float) (width height : ℕ) (o : Options) (before : List ℕ)
-      → pairOutAfter (NotTiled q) first second width height o before ≡ before
-  pub pair-view-empty : (q : Refusal) (tile : List ℕ) (width height column row : ℕ)
-      → first_of (pairViewChecks (length tile) width height column row) ≡ Refused q → pairViewOf tile width height column row ≡ []
-  pub write-dds-leaves : (q : Refusal) (tile : List ℕ) (width height : ℕ) (snorm : Bool) (before : List ℕ)
-      → fileAfter (NotWritten q) tile width height snorm before ≡ before
-  pub read-dds-empty : (q : Refusal) (file : List ℕ) → first_of (readChecks file) ≡ Refused q → body_of file ≡ []
-  pub receive-leaves : (q : Refusal) (held : Held) (width : ℕ) (m : Message)
-      → (tileAfter (NotReceived q) held.tile width m ≡ held.tile) × (editionsAfter (NotReceived q) held.editions width m ≡ held.editions)
+  pub receive : (held : Held) (width height : ℕ) (m : Message) → Exactly (of_received (receive_answer held width height m)) (ReceiveRefuses held width height m)
+  -- a refused call leaves lent memory as it was, a tile call by word too (`out_after` of the word's options), and a refused view is empty;
+  -- `decode_leaves` is for both channels' arrays too
+  pub decode_leaves : (q : Refusal) (encoded : List ℕ) (snorm : Bool) (before : List Float) → samples_after (Refused q) encoded snorm before ≡ before
+  pub tile_leaves : (q : Refusal) (samples : List Float) (width height : ℕ) (o : Options) (before : List ℕ)
+      → out_after (NotTiled q) samples width height o before ≡ before
+  pub view_empty : (q : Refusal) (tile : List ℕ) (width height column row : ℕ)
+      → first_of (view_checks (length tile) width height column row) ≡ Refused q → view_of tile width height column row ≡ []
+  pub pair_tile_leaves : (q : Refusal) (first second : List Float) (width height : ℕ) (o : Options) (before : List ℕ)
+      → pair_out_after (NotTiled q) first second width height o before ≡ before
+  pub pair_view_empty : (q : Refusal) (tile : List ℕ) (width height column row : ℕ)
+      → first_of (pair_view_checks (length tile) width height column row) ≡ Refused q → pair_view_of tile width height column row ≡ []
+  pub write_dds_leaves : (q : Refusal) (tile : List ℕ) (width height : ℕ) (snorm : Bool) (before : List ℕ)
+      → file_after (NotWritten q) tile width height snorm before ≡ before
+  pub read_dds_empty : (q : Refusal) (file : List ℕ) → first_of (read_checks file) ≡ Refused q → body_of file ≡ []
+  pub receive_leaves : (q : Refusal) (held : Held) (width : ℕ) (m : Message)
+      → (tile_after (NotReceived q) held.tile width m ≡ held.tile) × (editions_after (NotReceived q) held.editions width m ≡ held.editions)

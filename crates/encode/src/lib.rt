@@ -1,6 +1,6 @@
 // compress_bc4_block.
 ghost use Rattle.std.specs.Prelude.{◌≡◌, true};
-ghost use Rattle.encode.specs.Encoder.{searches as searchesOf, amid as amidOf, sixOnly, compressedOf, encoded as encodedOf, compressed};
+ghost use Rattle.encode.specs.Encoder.{searches as searches_of, amid as amid_of, six_only, compressed_of, encoded as encoded_of, compressed};
 ghost use Rattle.std.specs.Float.Ieee.{le};
 ghost use Rattle.floats.specs.Arithmetic.{f0, f1};
 
@@ -10,26 +10,26 @@ use options::Options;
 const INTER6_THRESHOLD: f32 = 1.0 / 7.0;
 
 fn searches(o: Options) -> bool
-    ensures { result ≡ searchesOf o }
+    ensures { result ≡ searches_of o }
 {
     o.brute_force & !o.dither & !o.snorm
 }
 
 fn amid(p: Pair) -> bool
-    ensures { result ≡ amidOf p }
+    ensures { result ≡ amid_of p }
 {
     let seventh = (p.1 - p.0) * INTER6_THRESHOLD;
     (0.0 < p.0 - seventh) & (p.1 + seventh < 1.0)
 }
 
 fn six_only(o: Options, p: Pair) -> bool
-    ensures { result ≡ sixOnly o p }
+    ensures { result ≡ six_only o p }
 {
     !o.use_inter4 | (o.use_inter4_heuristic & amid(p))
 }
 
 fn compressed_of(b: &[f32; 16], o: Options, p: Pair) -> u64
-    ensures { result ≡ compressedOf b.now o p }
+    ensures { result ≡ compressed_of b.now o p }
 {
     let six = compress::inter6::compress_inter6(b, p, o);
     if six_only(o, p) {
@@ -42,7 +42,7 @@ fn compressed_of(b: &[f32; 16], o: Options, p: Pair) -> u64
 // The smallest and the largest of a block that has entered are in 0..1.
 fn encoded(b: &[f32; 16], o: Options, p: Pair) -> u64
     requires { (le f0 p.0 ≡ true) × (le p.0 f1 ≡ true) × (le f0 p.1 ≡ true) × (le p.1 f1 ≡ true) }
-    ensures { result ≡ encodedOf b.now o p }
+    ensures { result ≡ encoded_of b.now o p }
 {
     if searches(o) {
         return search::reference_brute_force(b, p);

@@ -2,7 +2,7 @@
 -- Document 01, "Encoder steps"; bc4.rs, `EndPoints::quantize`. Levels are 0 to 255 unsigned and 0 to 254 signed.
 use Rattle.std.specs.Prelude.{ℕ, ◌-◌, Bool, cond, eqb, Float}
 use Rattle.floats.specs.Arithmetic.{◌⊕◌, ◌⊖◌, ◌⊗◌, half, f1, f254, f255}
-use Rattle.floats.specs.Helpers.{minOf, max_of, clampOf, byte_of}
+use Rattle.floats.specs.Helpers.{min_of, max_of, clamp_of, byte_of}
 use Rattle.values.specs.Values.{steps}
 use Rattle.end_points.specs.declared.levels.Levels.{Levels}
 
@@ -11,20 +11,20 @@ abbrev pub scale : Bool → Float
 scale snorm = cond snorm f254 f255
 
 -- round to nearest
-abbrev pub nearestLevel : Float → Bool → ℕ
-nearestLevel x snorm = byte_of (scale snorm ⊗ x ⊕ half)
+abbrev pub nearest_level : Float → Bool → ℕ
+nearest_level x snorm = byte_of (scale snorm ⊗ x ⊕ half)
 
 -- round down
-abbrev pub roundedDown : Float → Bool → ℕ
-roundedDown x snorm = byte_of (scale snorm ⊗ x)
+abbrev pub rounded_down : Float → Bool → ℕ
+rounded_down x snorm = byte_of (scale snorm ⊗ x)
 
 -- the level's distance from the top, rounded down
-abbrev pub downFromTop : Bool → Float → ℕ
-downFromTop snorm x = byte_of (scale snorm ⊗ (f1 ⊖ x))
+abbrev pub down_from_top : Bool → Float → ℕ
+down_from_top snorm x = byte_of (scale snorm ⊗ (f1 ⊖ x))
 
 -- round up
-abbrev pub roundedUp : Float → Bool → ℕ
-roundedUp x snorm = steps snorm - downFromTop snorm x
+abbrev pub rounded_up : Float → Bool → ℕ
+rounded_up x snorm = steps snorm - down_from_top snorm x
 
 abbrev pub levels : ℕ → ℕ → Levels
 levels low high = record { low = low; high = high }
@@ -34,15 +34,15 @@ unfoldable pub apart : ℕ → ℕ → Levels
 apart low high = cond (eqb low high) (cond (eqb low 0) (levels low 1) (levels (low - 1) high)) (levels low high)
 
 -- of a smaller and a larger float: each to the nearest level, or, where that is one level, outwards from each other
-unfoldable pub levelsBetween : Float → Float → Bool → Levels
-levelsBetween min max snorm =
-    cond (eqb (nearestLevel min snorm) (nearestLevel max snorm))
-    (apart (roundedDown min snorm) (roundedUp max snorm))
-    (levels (nearestLevel min snorm) (nearestLevel max snorm))
+unfoldable pub levels_between : Float → Float → Bool → Levels
+levels_between min max snorm =
+    cond (eqb (nearest_level min snorm) (nearest_level max snorm))
+    (apart (rounded_down min snorm) (rounded_up max snorm))
+    (levels (nearest_level min snorm) (nearest_level max snorm))
 
 -- signed ends are clamped first, which keeps a NaN; unsigned ones are left to the casts
-abbrev pub inFormat : Float → Bool → Float
-inFormat x snorm = cond snorm (clampOf x) x
+abbrev pub in_format : Float → Bool → Float
+in_format x snorm = cond snorm (clamp_of x) x
 
-unfoldable pub levelsOf : Float → Float → Bool → Levels
-levelsOf e0 e1 snorm = levelsBetween (inFormat (minOf e0 e1) snorm) (inFormat (max_of e0 e1) snorm) snorm
+unfoldable pub levels_of : Float → Float → Bool → Levels
+levels_of e0 e1 snorm = levels_between (in_format (min_of e0 e1) snorm) (in_format (max_of e0 e1) snorm) snorm

@@ -16,21 +16,21 @@ fn scale(snorm: bool) -> f32
 }
 
 pub fn nearest_level(x: f32, snorm: bool) -> u8
-    ensures { result ≡ L.nearestLevel x snorm }
+    ensures { result ≡ L.nearest_level x snorm }
 {
     floats::byte_of(scale(snorm) * x + 0.5)
 }
 
 fn rounded_down(x: f32, snorm: bool) -> u8
-    ensures { result ≡ L.roundedDown x snorm }
+    ensures { result ≡ L.rounded_down x snorm }
 {
     floats::byte_of(scale(snorm) * x)
 }
 
 // Signed values come clamped, so that the distance from the top is 254 at most.
 fn rounded_up(x: f32, snorm: bool) -> u8
-    requires { L.downFromTop snorm x ≤ steps snorm }
-    ensures { result ≡ L.roundedUp x snorm }
+    requires { L.down_from_top snorm x ≤ steps snorm }
+    ensures { result ≡ L.rounded_up x snorm }
 {
     values::steps(snorm) - floats::byte_of(scale(snorm) * (1.0 - x))
 }
@@ -55,8 +55,8 @@ fn apart(low: u8, high: u8) -> Levels
 
 // The caller's signed ends are clamped, or a NaN.
 fn between(min: f32, max: f32, snorm: bool) -> Levels
-    requires { L.downFromTop snorm max ≤ steps snorm }
-    ensures { result ≡ L.levelsBetween min max snorm }
+    requires { L.down_from_top snorm max ≤ steps snorm }
+    ensures { result ≡ L.levels_between min max snorm }
 {
     let low = nearest_level(min, snorm);
     let high = nearest_level(max, snorm);
@@ -70,13 +70,13 @@ fn between(min: f32, max: f32, snorm: bool) -> Levels
 }
 
 fn in_format(x: f32, snorm: bool) -> f32
-    ensures { result ≡ L.inFormat x snorm }
+    ensures { result ≡ L.in_format x snorm }
 {
     floats::pick(snorm, floats::clamp(x), x)
 }
 
 pub fn of_ends(e0: f32, e1: f32, snorm: bool) -> Levels
-    ensures { result ≡ L.levelsOf e0 e1 snorm }
+    ensures { result ≡ L.levels_of e0 e1 snorm }
 {
     let min = in_format(floats::min(e0, e1), snorm);
     let max = in_format(floats::max(e0, e1), snorm);

@@ -3,7 +3,7 @@ ghost use Rattle.std.specs.Prelude.{◌≡◌, true, false};
 ghost use Rattle.std.specs.Float.Ieee.{le};
 ghost use Rattle.floats.specs.Arithmetic.{f0, f1};
 ghost use Rattle.index_list.specs.Layout.{packed};
-ghost use Rattle.end_points.specs.EndPoints.{of_bytes, closest, quantized, swapped as swappedOf, inter6, exchanged, inter4};
+ghost use Rattle.end_points.specs.EndPoints.{of_bytes, closest, quantized, swapped as swapped_of, inter6, exchanged, inter4};
 
 pub mod levels;
 
@@ -59,7 +59,7 @@ impl EndPoints {
 
     // The Rust's `swap` where the signed bytes are not in order.
     fn swapped(c0: u8, c1: u8, snorm: bool) -> Self
-        ensures { result ≡ swappedOf c0 c1 snorm }
+        ensures { result ≡ swapped_of c0 c1 snorm }
     {
         if snorm & !values::byte_below(c1, c0, snorm) {
             return Self::of_bytes(c1, c0, snorm);

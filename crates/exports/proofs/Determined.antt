@@ -20,100 +20,100 @@ use Rattle.exports.proofs.bc4_encode_tile.Reads as tile
 use Rattle.exports.proofs.bc4_block_view.Kinds as view-kinds
 use Rattle.exports.proofs.bc4_block_view.Reads as view
 use Rattle.exports.proofs.channels.bc5_encode_block.Kinds as pair-encode-kinds
-use Rattle.exports.proofs.channels.bc5_encode_block.Reads as pair-encode
+use Rattle.exports.proofs.channels.bc5_encode_block.Reads as pair_encode
 use Rattle.exports.proofs.channels.bc5_decode_block.Kinds as pair-decode-kinds
-use Rattle.exports.proofs.channels.bc5_decode_block.Reads as pair-decode
+use Rattle.exports.proofs.channels.bc5_decode_block.Reads as pair_decode
 use Rattle.exports.proofs.channels.bc5_block_error.Kinds as pair-error-kinds
-use Rattle.exports.proofs.channels.bc5_block_error.Reads as pair-error
+use Rattle.exports.proofs.channels.bc5_block_error.Reads as pair_error_lem
 use Rattle.exports.proofs.channels.bc5_resend.Kinds as pair-resend-kinds
-use Rattle.exports.proofs.channels.bc5_resend.Reads as pair-resend
+use Rattle.exports.proofs.channels.bc5_resend.Reads as pair_resend
 use Rattle.exports.proofs.channels.bc5_encode_tile.Kinds as pair-tile-kinds
-use Rattle.exports.proofs.channels.bc5_encode_tile.Reads as pair-tile
+use Rattle.exports.proofs.channels.bc5_encode_tile.Reads as pair_tile
 use Rattle.exports.proofs.channels.bc5_block_view.Kinds as pair-view-kinds
-use Rattle.exports.proofs.channels.bc5_block_view.Reads as pair-view
+use Rattle.exports.proofs.channels.bc5_block_view.Reads as pair_view
 use Rattle.exports.proofs.bc4_write_dds.Kinds as write-dds-kinds
-use Rattle.exports.proofs.bc4_write_dds.Reads as write-dds
+use Rattle.exports.proofs.bc4_write_dds.Reads as write_dds
 use Rattle.exports.proofs.bc4_read_dds.Kinds as read-dds-kinds
-use Rattle.exports.proofs.bc4_read_dds.Reads as read-dds
+use Rattle.exports.proofs.bc4_read_dds.Reads as read_dds
 use Rattle.exports.proofs.messages.bc4_receive.Kinds as receive-kinds
 use Rattle.exports.proofs.messages.bc4_receive.Reads as receive
 use Rattle.exports.proofs.messages.bc4_clear.Kinds as clear-kinds
 use Rattle.exports.proofs.messages.bc4_clear.Reads as clear
 
-pub version-determined : One-answer 0 version-kinds.ps version-kinds.r version.Post
-version-determined κs a x y s t p q = p ∙ sym q
+pub version_determined : One-answer 0 version-kinds.ps version-kinds.r version.Post
+version_determined κs a x y s t p q = p ∙ sym q
 
 -- number, block and detail
-pub encode-determined : One-outcome 3 encode-kinds.ps encode-kinds.r encode.Post (ℕ × List ℕ × List ℕ) (λ κs x s. (x, s.1.1.0.now, s.1.1.1.0.now))
-encode-determined κs a x y s t p q = cc
+pub encode_determined : One-outcome 3 encode-kinds.ps encode-kinds.r encode.Post (ℕ × List ℕ × List ℕ) (λ κs x s. (x, s.1.1.0.now, s.1.1.1.0.now))
+encode_determined κs a x y s t p q = cc
 
 -- number, samples and detail
-pub decode-determined : One-outcome 3 decode-kinds.ps decode-kinds.r decode.Post (ℕ × List Float × List ℕ) (λ κs x s. (x, s.1.1.0.now, s.1.1.1.0.now))
-decode-determined κs a x y s t p q = cc
+pub decode_determined : One-outcome 3 decode-kinds.ps decode-kinds.r decode.Post (ℕ × List Float × List ℕ) (λ κs x s. (x, s.1.1.0.now, s.1.1.1.0.now))
+decode_determined κs a x y s t p q = cc
 
 -- number, error and detail
-pub error-determined : One-outcome 4 error-kinds.ps error-kinds.r error.Post (ℕ × Float × List ℕ) (λ κs x s. (x, s.1.1.1.0.now, s.1.1.1.1.0.now))
-error-determined κs a x y s t p q = cc
+pub error_determined : One-outcome 4 error-kinds.ps error-kinds.r error.Post (ℕ × Float × List ℕ) (λ κs x s. (x, s.1.1.1.0.now, s.1.1.1.1.0.now))
+error_determined κs a x y s t p q = cc
 
 -- number, block, flag and detail
-pub resend-determined : One-outcome 5 resend-kinds.ps resend-kinds.r resend.Post (ℕ × List ℕ × ℕ × List ℕ)
+pub resend_determined : One-outcome 5 resend-kinds.ps resend-kinds.r resend.Post (ℕ × List ℕ × ℕ × List ℕ)
     (λ κs x s. (x, s.1.1.1.0.now, s.1.1.1.1.0.now, s.1.1.1.1.1.0.now))
-resend-determined κs a x y s t p q = cc
+resend_determined κs a x y s t p q = cc
 
 -- number, every byte of the output, count and detail
-pub tile-determined : One-outcome 4 tile-kinds.ps tile-kinds.r tile.Post (ℕ × List ℕ × ℕ × List ℕ)
+pub tile_determined : One-outcome 4 tile-kinds.ps tile-kinds.r tile.Post (ℕ × List ℕ × ℕ × List ℕ)
     (λ κs x s. (x, s.1.1.1.1.0.now, s.1.1.1.1.1.0.now, s.1.1.1.1.1.1.0.now))
-tile-determined κs a x y s t p q = cc
+tile_determined κs a x y s t p q = cc
 
 -- number, offset and detail
-pub view-determined : One-outcome 3 view-kinds.ps view-kinds.r view.Post (ℕ × ℕ × List ℕ) (λ κs x s. (x, s.1.1.1.1.1.0.now, s.1.1.1.1.1.1.0.now))
-view-determined κs a x y s t p q = cc
+pub view_determined : One-outcome 3 view-kinds.ps view-kinds.r view.Post (ℕ × ℕ × List ℕ) (λ κs x s. (x, s.1.1.1.1.1.0.now, s.1.1.1.1.1.1.0.now))
+view_determined κs a x y s t p q = cc
 
 -- number, every byte of the output, count and detail
-pub write-dds-determined : One-outcome 4 write-dds-kinds.ps write-dds-kinds.r write-dds.Post (ℕ × List ℕ × ℕ × List ℕ)
+pub write_dds_determined : One-outcome 4 write-dds-kinds.ps write-dds-kinds.r write_dds.Post (ℕ × List ℕ × ℕ × List ℕ)
     (λ κs x s. (x, s.1.1.1.1.0.now, s.1.1.1.1.1.0.now, s.1.1.1.1.1.1.0.now))
-write-dds-determined κs a x y s t p q = cc
+write_dds_determined κs a x y s t p q = cc
 
 -- number, width, height, format, offset and detail
-pub read-dds-determined : One-outcome 6 read-dds-kinds.ps read-dds-kinds.r read-dds.Post (ℕ × ℕ × ℕ × ℕ × ℕ × List ℕ)
+pub read_dds_determined : One-outcome 6 read-dds-kinds.ps read-dds-kinds.r read_dds.Post (ℕ × ℕ × ℕ × ℕ × ℕ × List ℕ)
     (λ κs x s. (x, s.1.0.now, s.1.1.0.now, s.1.1.1.0.now, s.1.1.1.1.0.now, s.1.1.1.1.1.0.now))
-read-dds-determined κs a x y s t p q = cc
+read_dds_determined κs a x y s t p q = cc
 
 -- ---- two channels. Number, block and detail
-pub pair-encode-determined : One-outcome 4 pair-encode-kinds.ps pair-encode-kinds.r pair-encode.Post (ℕ × List ℕ × List ℕ)
+pub pair_encode_determined : One-outcome 4 pair-encode-kinds.ps pair-encode-kinds.r pair_encode.Post (ℕ × List ℕ × List ℕ)
     (λ κs x s. (x, s.1.1.1.0.now, s.1.1.1.1.0.now))
-pair-encode-determined κs a x y s t p q = cc
+pair_encode_determined κs a x y s t p q = cc
 
 -- number, samples of both channels and detail
-pub pair-decode-determined : One-outcome 4 pair-decode-kinds.ps pair-decode-kinds.r pair-decode.Post (ℕ × List Float × List Float × List ℕ)
+pub pair_decode_determined : One-outcome 4 pair-decode-kinds.ps pair-decode-kinds.r pair_decode.Post (ℕ × List Float × List Float × List ℕ)
     (λ κs x s. (x, s.1.1.0.now, s.1.1.1.0.now, s.1.1.1.1.0.now))
-pair-decode-determined κs a x y s t p q = cc
+pair_decode_determined κs a x y s t p q = cc
 
 -- number, both errors and detail
-pub pair-error-determined : One-outcome 5 pair-error-kinds.ps pair-error-kinds.r pair-error.Post (ℕ × List Float × List ℕ)
+pub pair_error_determined : One-outcome 5 pair-error-kinds.ps pair-error-kinds.r pair_error_lem.Post (ℕ × List Float × List ℕ)
     (λ κs x s. (x, s.1.1.1.1.0.now, s.1.1.1.1.1.0.now))
-pair-error-determined κs a x y s t p q = cc
+pair_error_determined κs a x y s t p q = cc
 
 -- number, block, both flags and detail
-pub pair-resend-determined : One-outcome 6 pair-resend-kinds.ps pair-resend-kinds.r pair-resend.Post (ℕ × List ℕ × List ℕ × List ℕ)
+pub pair_resend_determined : One-outcome 6 pair-resend-kinds.ps pair-resend-kinds.r pair_resend.Post (ℕ × List ℕ × List ℕ × List ℕ)
     (λ κs x s. (x, s.1.1.1.1.0.now, s.1.1.1.1.1.0.now, s.1.1.1.1.1.1.0.now))
-pair-resend-determined κs a x y s t p q = cc
+pair_resend_determined κs a x y s t p q = cc
 
 -- number, every byte of the output, count and detail
-pub pair-tile-determined : One-outcome 5 pair-tile-kinds.ps pair-tile-kinds.r pair-tile.Post (ℕ × List ℕ × ℕ × List ℕ)
+pub pair_tile_determined : One-outcome 5 pair-tile-kinds.ps pair-tile-kinds.r pair_tile.Post (ℕ × List ℕ × ℕ × List ℕ)
     (λ κs x s. (x, s.1.1.1.1.1.0.now, s.1.1.1.1.1.1.0.now, s.1.1.1.1.1.1.1.0.now))
-pair-tile-determined κs a x y s t p q = cc
+pair_tile_determined κs a x y s t p q = cc
 
 -- number, offset and detail
-pub pair-view-determined : One-outcome 3 pair-view-kinds.ps pair-view-kinds.r pair-view.Post (ℕ × ℕ × List ℕ)
+pub pair_view_determined : One-outcome 3 pair-view-kinds.ps pair-view-kinds.r pair_view.Post (ℕ × ℕ × List ℕ)
     (λ κs x s. (x, s.1.1.1.1.1.0.now, s.1.1.1.1.1.1.0.now))
-pair-view-determined κs a x y s t p q = cc
+pair_view_determined κs a x y s t p q = cc
 
 -- ---- the receiving side. Number, every byte of the tile, every entry of the record, outcome and detail
-pub receive-determined : One-outcome 5 receive-kinds.ps receive-kinds.r receive.Post (ℕ × List ℕ × List ℕ × ℕ × List ℕ)
+pub receive_determined : One-outcome 5 receive-kinds.ps receive-kinds.r receive.Post (ℕ × List ℕ × List ℕ × ℕ × List ℕ)
     (λ κs x s. (x, s.0.now, s.1.0.now, s.1.1.1.1.1.1.1.1.0.now, s.1.1.1.1.1.1.1.1.1.0.now))
-receive-determined κs a x y s t p q = cc
+receive_determined κs a x y s t p q = cc
 
 -- every entry of the record
-pub clear-determined : One-outcome 1 clear-kinds.ps clear-kinds.r clear.Post (List ℕ) (λ κs x s. s.0.now)
-clear-determined κs a x y s t p q = cc
+pub clear_determined : One-outcome 1 clear-kinds.ps clear-kinds.r clear.Post (List ℕ) (λ κs x s. s.0.now)
+clear_determined κs a x y s t p q = cc

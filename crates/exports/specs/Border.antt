@@ -2,7 +2,7 @@
 -- every place as it was, but for the four numbers of the detail, which a refusal that has something to say writes.
 use Rattle.std.specs.Prelude.{cond, List, ℕ, ◌/◌, ◌%◌, ◌^◌, Float}
 use Rattle.index_list.specs.Layout.{bytes_of}
-use Rattle.place.specs.Place.{bc4Size, blockAt}
+use Rattle.place.specs.Place.{bc4_size, block_at}
 use Rattle.refusal.specs.declared.Checked.{Checked}
 use Rattle.bc4.specs.declared.word.Word.{Word}
 use Rattle.bc4.specs.declared.Encoded.{Encoded}
@@ -13,40 +13,40 @@ use Rattle.bc4.specs.declared.Resent.{Resent}
 use Rattle.bc4.specs.declared.Resent.TheVariants.{Block as Answered, Refused as NotResent}
 use Rattle.bc4.specs.declared.Tiled.{Tiled}
 use Rattle.bc4.specs.declared.Tiled.TheVariants.{Written, Refused as NotTiled}
-use Rattle.refusal.specs.Refusals.{number_of, detailOf, answered}
+use Rattle.refusal.specs.Refusals.{number_of, detail_of, answered}
 use Rattle.bc4.specs.Word.{word_of}
 
 -- the options word, byte 0 lowest
-abbrev pub wordOfNumber : ℕ → Word
-wordOfNumber options = word_of (options % 2 ^ 8) (options / 2 ^ 8 % 2 ^ 8) (options / 2 ^ 16 % 2 ^ 8) (options / 2 ^ 24)
+abbrev pub word_of_number : ℕ → Word
+word_of_number options = word_of (options % 2 ^ 8) (options / 2 ^ 8 % 2 ^ 8) (options / 2 ^ 16 % 2 ^ 8) (options / 2 ^ 24)
 
 -- ---- a refusal, or none
 abbrev pub number_in : Checked → ℕ
 number_in = answered number_of 0
 
-abbrev pub detailAfter : Checked → List ℕ → List ℕ
-detailAfter checked before = answered (λ q. detailOf q before) before checked
+abbrev pub detail_after : Checked → List ℕ → List ℕ
+detail_after checked before = answered (λ q. detail_of q before) before checked
 
-abbrev pub blockAfter : Encoded → List ℕ → List ℕ
-blockAfter (Block b) before = bytes_of b
-blockAfter (NotEncoded q) before = before
+abbrev pub block_after : Encoded → List ℕ → List ℕ
+block_after (Block b) before = bytes_of b
+block_after (NotEncoded q) before = before
 
-abbrev pub errorAfter : Scored → Float → Float
-errorAfter (Error e) before = e
-errorAfter (NotScored q) before = before
+abbrev pub error_after : Scored → Float → Float
+error_after (Error e) before = e
+error_after (NotScored q) before = before
 
-abbrev pub heldAfter : Resent → List ℕ → List ℕ
-heldAfter (Answered h) before = bytes_of h.block
-heldAfter (NotResent q) before = before
+abbrev pub held_after : Resent → List ℕ → List ℕ
+held_after (Answered h) before = bytes_of h.block
+held_after (NotResent q) before = before
 
 -- 1 where the bytes are the fresh ones, else 0
-abbrev pub freshAfter : Resent → ℕ → ℕ
-freshAfter (Answered h) before = cond h.fresh 1 0
-freshAfter (NotResent q) before = before
+abbrev pub fresh_after : Resent → ℕ → ℕ
+fresh_after (Answered h) before = cond h.fresh 1 0
+fresh_after (NotResent q) before = before
 
-abbrev pub writtenAfter : Tiled → ℕ → ℕ
-writtenAfter (Written n) before = n
-writtenAfter (NotTiled q) before = before
+abbrev pub written_after : Tiled → ℕ → ℕ
+written_after (Written n) before = n
+written_after (NotTiled q) before = before
 
-abbrev pub offsetAfter : Checked → ℕ → ℕ → ℕ → ℕ → ℕ
-offsetAfter checked width column row before = answered (λ q. before) (blockAt bc4Size width column row) checked
+abbrev pub offset_after : Checked → ℕ → ℕ → ℕ → ℕ → ℕ
+offset_after checked width column row before = answered (λ q. before) (block_at bc4_size width column row) checked

@@ -5,24 +5,24 @@ use Rattle.dds.specs.declared.Written.TheVariants.{Bytes, Refused as NotWritten}
 use Rattle.dds.specs.declared.Found.{Found}
 use Rattle.dds.specs.declared.Found.TheVariants.{File, Refused as NotFound}
 
-abbrev pub fileWrittenAfter : Written → ℕ → ℕ
-fileWrittenAfter (Bytes n) before = n
-fileWrittenAfter (NotWritten q) before = before
+abbrev pub file_written_after : Written → ℕ → ℕ
+file_written_after (Bytes n) before = n
+file_written_after (NotWritten q) before = before
 
-abbrev pub widthAfter : Found → ℕ → ℕ
-widthAfter (File p) before = p.width
-widthAfter (NotFound q) before = before
+abbrev pub width_after : Found → ℕ → ℕ
+width_after (File p) before = p.width
+width_after (NotFound q) before = before
 
-abbrev pub heightAfter : Found → ℕ → ℕ
-heightAfter (File p) before = p.height
-heightAfter (NotFound q) before = before
+abbrev pub height_after : Found → ℕ → ℕ
+height_after (File p) before = p.height
+height_after (NotFound q) before = before
 
 -- 1 where the blocks are signed, else 0
-abbrev pub snormAfter : Found → ℕ → ℕ
-snormAfter (File p) before = cond p.snorm 1 0
-snormAfter (NotFound q) before = before
+abbrev pub snorm_after : Found → ℕ → ℕ
+snorm_after (File p) before = cond p.snorm 1 0
+snorm_after (NotFound q) before = before
 
 -- where the tile's bytes start
-abbrev pub startAfter : Found → ℕ → ℕ
-startAfter (File p) before = p.start
-startAfter (NotFound q) before = before
+abbrev pub start_after : Found → ℕ → ℕ
+start_after (File p) before = p.start
+start_after (NotFound q) before = before

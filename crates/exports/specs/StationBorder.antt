@@ -3,9 +3,9 @@ use Rattle.std.specs.Prelude.{ℕ}
 use Rattle.station.specs.declared.Received.{Received}
 use Rattle.station.specs.declared.Received.TheVariants.{Taken, Repeated, Replaced, Old, Refused as NotReceived}
 
-abbrev pub outcomeAfter : Received → ℕ → ℕ
-outcomeAfter Taken before = 1
-outcomeAfter Repeated before = 2
-outcomeAfter Replaced before = 3
-outcomeAfter Old before = 4
-outcomeAfter (NotReceived q) before = before
+abbrev pub outcome_after : Received → ℕ → ℕ
+outcome_after Taken before = 1
+outcome_after Repeated before = 2
+outcome_after Replaced before = 3
+outcome_after Old before = 4
+outcome_after (NotReceived q) before = before

@@ -1,12 +1,12 @@
 // The calls of `bc5` for C: include/bc5.h says what each does.
 ghost use Rattle.std.specs.Prelude.{◌≡◌, length};
 ghost use Rattle.refusal.specs.Refusals.{first_of};
-ghost use Rattle.bc4.specs.Calls.{ofTiled, samplesAfter};
-ghost use Rattle.bc5.specs.Checks.{decodeChecks, viewChecks};
-ghost use Rattle.bc5.specs.Calls.{firstHalf, secondHalf, ofEncoded, ofScored, ofResent, errorAnswer, outAfter};
-ghost use Rattle.bc5.specs.Word.{encodeByWord, resendByWord, tileByWord};
-ghost use Rattle.exports.specs.Border.{wordOfNumber, number_in, detailAfter, writtenAfter};
-ghost use Rattle.exports.specs.ChannelsBorder.{pairAfter, pairErrorsAfter, pairHeldAfter, pairFreshAfter, pairOffsetAfter};
+ghost use Rattle.bc4.specs.Calls.{of_tiled, samples_after};
+ghost use Rattle.bc5.specs.Checks.{decode_checks, view_checks};
+ghost use Rattle.bc5.specs.Calls.{first_half, second_half, of_encoded, of_scored, of_resent, error_answer, out_after};
+ghost use Rattle.bc5.specs.Word.{encode_by_word, resend_by_word, tile_by_word};
+ghost use Rattle.exports.specs.Border.{word_of_number, number_in, detail_after, written_after};
+ghost use Rattle.exports.specs.ChannelsBorder.{pair_after, pair_errors_after, pair_held_after, pair_fresh_after, pair_offset_after};
 
 use crate::{bit, refused, word_in};
 use bc5::{Checked, Encoded, Halves, Resent, Scored, Tiled};
@@ -19,9 +19,9 @@ pub extern "C" fn bc5_encode_block(
     block: &mut [u8; 16],
     detail: &mut [usize; 4],
 ) -> u32
-    ensures number { result ≡ number_in (ofEncoded (encodeByWord first.now second.now (wordOfNumber options))) }
-    ensures block { block.new ≡ pairAfter (encodeByWord first.now second.now (wordOfNumber options)) block.old }
-    ensures detail { detail.new ≡ detailAfter (ofEncoded (encodeByWord first.now second.now (wordOfNumber options))) detail.old }
+    ensures number { result ≡ number_in (of_encoded (encode_by_word first.now second.now (word_of_number options))) }
+    ensures block { block.new ≡ pair_after (encode_by_word first.now second.now (word_of_number options)) block.old }
+    ensures detail { detail.new ≡ detail_after (of_encoded (encode_by_word first.now second.now (word_of_number options))) detail.old }
 {
     let answer = bc5::word::encode_block(first, second, word_in(options));
     match answer {
@@ -41,10 +41,10 @@ pub extern "C" fn bc5_decode_block(
     second: &mut [f32; 16],
     detail: &mut [usize; 4],
 ) -> u32
-    ensures number { result ≡ number_in (first_of (decodeChecks encoded.now)) }
-    ensures first { first.new ≡ samplesAfter (first_of (decodeChecks encoded.now)) (firstHalf encoded.now) snorm first.old }
-    ensures second { second.new ≡ samplesAfter (first_of (decodeChecks encoded.now)) (secondHalf encoded.now) snorm second.old }
-    ensures detail { detail.new ≡ detailAfter (first_of (decodeChecks encoded.now)) detail.old }
+    ensures number { result ≡ number_in (first_of (decode_checks encoded.now)) }
+    ensures first { first.new ≡ samples_after (first_of (decode_checks encoded.now)) (first_half encoded.now) snorm first.old }
+    ensures second { second.new ≡ samples_after (first_of (decode_checks encoded.now)) (second_half encoded.now) snorm second.old }
+    ensures detail { detail.new ≡ detail_after (first_of (decode_checks encoded.now)) detail.old }
 {
     let checked = bc5::decode_block(encoded, snorm, first, second);
     match checked {
@@ -62,9 +62,9 @@ pub extern "C" fn bc5_block_error(
     errors: &mut [f32; 2],
     detail: &mut [usize; 4],
 ) -> u32
-    ensures number { result ≡ number_in (ofScored (errorAnswer first.now second.now encoded.now snorm)) }
-    ensures errors { errors.new ≡ pairErrorsAfter (errorAnswer first.now second.now encoded.now snorm) errors.old }
-    ensures detail { detail.new ≡ detailAfter (ofScored (errorAnswer first.now second.now encoded.now snorm)) detail.old }
+    ensures number { result ≡ number_in (of_scored (error_answer first.now second.now encoded.now snorm)) }
+    ensures errors { errors.new ≡ pair_errors_after (error_answer first.now second.now encoded.now snorm) errors.old }
+    ensures detail { detail.new ≡ detail_after (of_scored (error_answer first.now second.now encoded.now snorm)) detail.old }
 {
     let answer = bc5::block_error(first, second, encoded, snorm);
     match answer {
@@ -86,10 +86,10 @@ pub extern "C" fn bc5_resend(
     fresh: &mut [u8; 2],
     detail: &mut [usize; 4],
 ) -> u32
-    ensures number { result ≡ number_in (ofResent (resendByWord first.now second.now held.now (wordOfNumber options))) }
-    ensures block { block.new ≡ pairHeldAfter (resendByWord first.now second.now held.now (wordOfNumber options)) block.old }
-    ensures fresh { fresh.new ≡ pairFreshAfter (resendByWord first.now second.now held.now (wordOfNumber options)) fresh.old }
-    ensures detail { detail.new ≡ detailAfter (ofResent (resendByWord first.now second.now held.now (wordOfNumber options))) detail.old }
+    ensures number { result ≡ number_in (of_resent (resend_by_word first.now second.now held.now (word_of_number options))) }
+    ensures block { block.new ≡ pair_held_after (resend_by_word first.now second.now held.now (word_of_number options)) block.old }
+    ensures fresh { fresh.new ≡ pair_fresh_after (resend_by_word first.now second.now held.now (word_of_number options)) fresh.old }
+    ensures detail { detail.new ≡ detail_after (of_resent (resend_by_word first.now second.now held.now (word_of_number options))) detail.old }
 {
     let answer = bc5::word::resend(first, second, held, word_in(options));
     match answer {
@@ -116,10 +116,10 @@ pub extern "C" fn bc5_encode_tile(
     written: &mut usize,
     detail: &mut [usize; 4],
 ) -> u32
-    ensures number { result ≡ number_in (ofTiled (tileByWord first.now second.now width height (wordOfNumber options) (length out.old))) }
-    ensures bytes { out.new ≡ outAfter (tileByWord first.now second.now width height (wordOfNumber options) (length out.old)) first.now second.now width height (wordOfNumber options).options out.old }
-    ensures written { written.new ≡ writtenAfter (tileByWord first.now second.now width height (wordOfNumber options) (length out.old)) written.old }
-    ensures detail { detail.new ≡ detailAfter (ofTiled (tileByWord first.now second.now width height (wordOfNumber options) (length out.old))) detail.old }
+    ensures number { result ≡ number_in (of_tiled (tile_by_word first.now second.now width height (word_of_number options) (length out.old))) }
+    ensures bytes { out.new ≡ out_after (tile_by_word first.now second.now width height (word_of_number options) (length out.old)) first.now second.now width height (word_of_number options).options out.old }
+    ensures written { written.new ≡ written_after (tile_by_word first.now second.now width height (word_of_number options) (length out.old)) written.old }
+    ensures detail { detail.new ≡ detail_after (of_tiled (tile_by_word first.now second.now width height (word_of_number options) (length out.old))) detail.old }
 {
     let answer = bc5::word::encode_tile(first, second, width, height, word_in(options), out);
     match answer {
@@ -142,9 +142,9 @@ pub extern "C" fn bc5_block_view(
     offset: &mut usize,
     detail: &mut [usize; 4],
 ) -> u32
-    ensures number { result ≡ number_in (first_of (viewChecks (length tile.now) width height column row)) }
-    ensures offset { offset.new ≡ pairOffsetAfter (first_of (viewChecks (length tile.now) width height column row)) width column row offset.old }
-    ensures detail { detail.new ≡ detailAfter (first_of (viewChecks (length tile.now) width height column row)) detail.old }
+    ensures number { result ≡ number_in (first_of (view_checks (length tile.now) width height column row)) }
+    ensures offset { offset.new ≡ pair_offset_after (first_of (view_checks (length tile.now) width height column row)) width column row offset.old }
+    ensures detail { detail.new ≡ detail_after (first_of (view_checks (length tile.now) width height column row)) detail.old }
 {
     let checked = bc5::view_refusal(tile, width, height, column, row);
     match checked {

@@ -1,12 +1,12 @@
 // The calls of `bc4`, `dds`, `bc5` and `station` for C, and for Rust through bindings/rust: the headers in include/ say what each does. Each that can refuse answers the number of the
 // refusal, or 0, and writes its values through references. None asks anything of its arguments: what a pointer and a length must be is the header's to say.
 ghost use Rattle.std.specs.Prelude.{◌≡◌, cond, length};
-ghost use Rattle.refusal.specs.Refusals.{number_of, detailOf, first_of, decodeChecks, viewChecks};
-ghost use Rattle.bc4.specs.Calls.{ofEncoded, ofScored, ofResent, ofTiled, samplesAfter, errorAnswer, outAfter};
-ghost use Rattle.bc4.specs.Word.{encodeByWord, resendByWord, tileByWord};
-ghost use Rattle.dds.specs.Calls.{writeAnswer, ofWritten, fileAfter, readAnswer, ofFound};
-ghost use Rattle.exports.specs.Border.{wordOfNumber, number_in, detailAfter, blockAfter, errorAfter, heldAfter, freshAfter, writtenAfter, offsetAfter};
-ghost use Rattle.exports.specs.DdsBorder.{fileWrittenAfter, widthAfter, heightAfter, snormAfter, startAfter};
+ghost use Rattle.refusal.specs.Refusals.{number_of, detail_of, first_of, decode_checks, view_checks};
+ghost use Rattle.bc4.specs.Calls.{of_encoded, of_scored, of_resent, of_tiled, samples_after, error_answer, out_after};
+ghost use Rattle.bc4.specs.Word.{encode_by_word, resend_by_word, tile_by_word};
+ghost use Rattle.dds.specs.Calls.{write_answer, of_written, file_after, read_answer, of_found};
+ghost use Rattle.exports.specs.Border.{word_of_number, number_in, detail_after, block_after, error_after, held_after, fresh_after, written_after, offset_after};
+ghost use Rattle.exports.specs.DdsBorder.{file_written_after, width_after, height_after, snorm_after, start_after};
 
 mod channels;
 mod messages;
@@ -24,7 +24,7 @@ pub extern "C" fn bc4_version() -> u32
 }
 
 fn word_in(options: u32) -> Word
-    ensures { result ≡ wordOfNumber options }
+    ensures { result ≡ word_of_number options }
 {
     bc4::word::read(
         (options % 256) as u8,
@@ -37,7 +37,7 @@ fn word_in(options: u32) -> Word
 // A refusal's number, and into `detail` what it brings with it: what, index, row and column.
 fn refused(q: Refusal, detail: &mut [usize; 4]) -> u32
     ensures number { result ≡ number_of q }
-    ensures detail { detail.new ≡ detailOf q detail.old }
+    ensures detail { detail.new ≡ detail_of q detail.old }
 {
     refusal::detail(q, detail);
     bc4::number(q) as u32
@@ -50,9 +50,9 @@ pub extern "C" fn bc4_encode_block(
     block: &mut [u8; 8],
     detail: &mut [usize; 4],
 ) -> u32
-    ensures number { result ≡ number_in (ofEncoded (encodeByWord samples.now (wordOfNumber options))) }
-    ensures block { block.new ≡ blockAfter (encodeByWord samples.now (wordOfNumber options)) block.old }
-    ensures detail { detail.new ≡ detailAfter (ofEncoded (encodeByWord samples.now (wordOfNumber options))) detail.old }
+    ensures number { result ≡ number_in (of_encoded (encode_by_word samples.now (word_of_number options))) }
+    ensures block { block.new ≡ block_after (encode_by_word samples.now (word_of_number options)) block.old }
+    ensures detail { detail.new ≡ detail_after (of_encoded (encode_by_word samples.now (word_of_number options))) detail.old }
 {
     let answer = bc4::word::encode_block(samples, word_in(options));
     match answer {
@@ -71,9 +71,9 @@ pub extern "C" fn bc4_decode_block(
     samples: &mut [f32; 16],
     detail: &mut [usize; 4],
 ) -> u32
-    ensures number { result ≡ number_in (first_of (decodeChecks encoded.now)) }
-    ensures samples { samples.new ≡ samplesAfter (first_of (decodeChecks encoded.now)) encoded.now snorm samples.old }
-    ensures detail { detail.new ≡ detailAfter (first_of (decodeChecks encoded.now)) detail.old }
+    ensures number { result ≡ number_in (first_of (decode_checks encoded.now)) }
+    ensures samples { samples.new ≡ samples_after (first_of (decode_checks encoded.now)) encoded.now snorm samples.old }
+    ensures detail { detail.new ≡ detail_after (first_of (decode_checks encoded.now)) detail.old }
 {
     let checked = bc4::decode_block(encoded, snorm, samples);
     match checked {
@@ -90,9 +90,9 @@ pub extern "C" fn bc4_block_error(
     error: &mut f32,
     detail: &mut [usize; 4],
 ) -> u32
-    ensures number { result ≡ number_in (ofScored (errorAnswer samples.now encoded.now snorm)) }
-    ensures error { error.new ≡ errorAfter (errorAnswer samples.now encoded.now snorm) error.old }
-    ensures detail { detail.new ≡ detailAfter (ofScored (errorAnswer samples.now encoded.now snorm)) detail.old }
+    ensures number { result ≡ number_in (of_scored (error_answer samples.now encoded.now snorm)) }
+    ensures error { error.new ≡ error_after (error_answer samples.now encoded.now snorm) error.old }
+    ensures detail { detail.new ≡ detail_after (of_scored (error_answer samples.now encoded.now snorm)) detail.old }
 {
     let answer = bc4::block_error(samples, encoded, snorm);
     match answer {
@@ -114,10 +114,10 @@ pub extern "C" fn bc4_resend(
     fresh: &mut u8,
     detail: &mut [usize; 4],
 ) -> u32
-    ensures number { result ≡ number_in (ofResent (resendByWord samples.now held.now (wordOfNumber options))) }
-    ensures block { block.new ≡ heldAfter (resendByWord samples.now held.now (wordOfNumber options)) block.old }
-    ensures fresh { fresh.new ≡ freshAfter (resendByWord samples.now held.now (wordOfNumber options)) fresh.old }
-    ensures detail { detail.new ≡ detailAfter (ofResent (resendByWord samples.now held.now (wordOfNumber options))) detail.old }
+    ensures number { result ≡ number_in (of_resent (resend_by_word samples.now held.now (word_of_number options))) }
+    ensures block { block.new ≡ held_after (resend_by_word samples.now held.now (word_of_number options)) block.old }
+    ensures fresh { fresh.new ≡ fresh_after (resend_by_word samples.now held.now (word_of_number options)) fresh.old }
+    ensures detail { detail.new ≡ detail_after (of_resent (resend_by_word samples.now held.now (word_of_number options))) detail.old }
 {
     let answer = bc4::word::resend(samples, held, word_in(options));
     match answer {
@@ -146,10 +146,10 @@ pub extern "C" fn bc4_encode_tile(
     written: &mut usize,
     detail: &mut [usize; 4],
 ) -> u32
-    ensures number { result ≡ number_in (ofTiled (tileByWord samples.now width height (wordOfNumber options) (length out.old))) }
-    ensures bytes { out.new ≡ outAfter (tileByWord samples.now width height (wordOfNumber options) (length out.old)) samples.now width height (wordOfNumber options).options out.old }
-    ensures written { written.new ≡ writtenAfter (tileByWord samples.now width height (wordOfNumber options) (length out.old)) written.old }
-    ensures detail { detail.new ≡ detailAfter (ofTiled (tileByWord samples.now width height (wordOfNumber options) (length out.old))) detail.old }
+    ensures number { result ≡ number_in (of_tiled (tile_by_word samples.now width height (word_of_number options) (length out.old))) }
+    ensures bytes { out.new ≡ out_after (tile_by_word samples.now width height (word_of_number options) (length out.old)) samples.now width height (word_of_number options).options out.old }
+    ensures written { written.new ≡ written_after (tile_by_word samples.now width height (word_of_number options) (length out.old)) written.old }
+    ensures detail { detail.new ≡ detail_after (of_tiled (tile_by_word samples.now width height (word_of_number options) (length out.old))) detail.old }
 {
     let answer = bc4::word::encode_tile(samples, width, height, word_in(options), out);
     match answer {
@@ -172,9 +172,9 @@ pub extern "C" fn bc4_block_view(
     offset: &mut usize,
     detail: &mut [usize; 4],
 ) -> u32
-    ensures number { result ≡ number_in (first_of (viewChecks (length tile.now) width height column row)) }
-    ensures offset { offset.new ≡ offsetAfter (first_of (viewChecks (length tile.now) width height column row)) width column row offset.old }
-    ensures detail { detail.new ≡ detailAfter (first_of (viewChecks (length tile.now) width height column row)) detail.old }
+    ensures number { result ≡ number_in (first_of (view_checks (length tile.now) width height column row)) }
+    ensures offset { offset.new ≡ offset_after (first_of (view_checks (length tile.now) width height column row)) width column row offset.old }
+    ensures detail { detail.new ≡ detail_after (first_of (view_checks (length tile.now) width height column row)) detail.old }
 {
     let checked = bc4::view_refusal(tile, width, height, column, row);
     match checked {
@@ -196,10 +196,10 @@ pub extern "C" fn bc4_write_dds(
     written: &mut usize,
     detail: &mut [usize; 4],
 ) -> u32
-    ensures number { result ≡ number_in (ofWritten (writeAnswer (length tile.now) width height (length out.old))) }
-    ensures bytes { out.new ≡ fileAfter (writeAnswer (length tile.now) width height (length out.old)) tile.now width height snorm out.old }
-    ensures written { written.new ≡ fileWrittenAfter (writeAnswer (length tile.now) width height (length out.old)) written.old }
-    ensures detail { detail.new ≡ detailAfter (ofWritten (writeAnswer (length tile.now) width height (length out.old))) detail.old }
+    ensures number { result ≡ number_in (of_written (write_answer (length tile.now) width height (length out.old))) }
+    ensures bytes { out.new ≡ file_after (write_answer (length tile.now) width height (length out.old)) tile.now width height snorm out.old }
+    ensures written { written.new ≡ file_written_after (write_answer (length tile.now) width height (length out.old)) written.old }
+    ensures detail { detail.new ≡ detail_after (of_written (write_answer (length tile.now) width height (length out.old))) detail.old }
 {
     let answer = dds::write(tile, width, height, snorm, out);
     match answer {
@@ -221,12 +221,12 @@ pub extern "C" fn bc4_read_dds(
     offset: &mut usize,
     detail: &mut [usize; 4],
 ) -> u32
-    ensures number { result ≡ number_in (ofFound (readAnswer file.now)) }
-    ensures width { width.new ≡ widthAfter (readAnswer file.now) width.old }
-    ensures height { height.new ≡ heightAfter (readAnswer file.now) height.old }
-    ensures snorm { snorm.new ≡ snormAfter (readAnswer file.now) snorm.old }
-    ensures offset { offset.new ≡ startAfter (readAnswer file.now) offset.old }
-    ensures detail { detail.new ≡ detailAfter (ofFound (readAnswer file.now)) detail.old }
+    ensures number { result ≡ number_in (of_found (read_answer file.now)) }
+    ensures width { width.new ≡ width_after (read_answer file.now) width.old }
+    ensures height { height.new ≡ height_after (read_answer file.now) height.old }
+    ensures snorm { snorm.new ≡ snorm_after (read_answer file.now) snorm.old }
+    ensures offset { offset.new ≡ start_after (read_answer file.now) offset.old }
+    ensures detail { detail.new ≡ detail_after (of_found (read_answer file.now)) detail.old }
 {
     let answer = dds::read(file);
     match answer {

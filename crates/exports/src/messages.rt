@@ -1,9 +1,9 @@
 // The calls of `station` for C: include/station.h says what each does.
 ghost use Rattle.std.specs.Prelude.{◌≡◌};
 ghost use Rattle.station.specs.Editions.{message, holding};
-ghost use Rattle.station.specs.Receiving.{receiveAnswer, tileAfter, editionsAfter, ofReceived, cleared};
-ghost use Rattle.exports.specs.Border.{number_in, detailAfter};
-ghost use Rattle.exports.specs.StationBorder.{outcomeAfter};
+ghost use Rattle.station.specs.Receiving.{receive_answer, tile_after, editions_after, of_received, cleared};
+ghost use Rattle.exports.specs.Border.{number_in, detail_after};
+ghost use Rattle.exports.specs.StationBorder.{outcome_after};
 
 use crate::refused;
 use station::Received;
@@ -21,11 +21,11 @@ pub extern "C" fn bc4_receive(
     outcome: &mut u8,
     detail: &mut [usize; 4],
 ) -> u32
-    ensures number { result ≡ number_in (ofReceived (receiveAnswer (holding tile.old editions.old) width height (message column row edition block.now))) }
-    ensures tile { tile.new ≡ tileAfter (receiveAnswer (holding tile.old editions.old) width height (message column row edition block.now)) tile.old width (message column row edition block.now) }
-    ensures editions { editions.new ≡ editionsAfter (receiveAnswer (holding tile.old editions.old) width height (message column row edition block.now)) editions.old width (message column row edition block.now) }
-    ensures outcome { outcome.new ≡ outcomeAfter (receiveAnswer (holding tile.old editions.old) width height (message column row edition block.now)) outcome.old }
-    ensures detail { detail.new ≡ detailAfter (ofReceived (receiveAnswer (holding tile.old editions.old) width height (message column row edition block.now))) detail.old }
+    ensures number { result ≡ number_in (of_received (receive_answer (holding tile.old editions.old) width height (message column row edition block.now))) }
+    ensures tile { tile.new ≡ tile_after (receive_answer (holding tile.old editions.old) width height (message column row edition block.now)) tile.old width (message column row edition block.now) }
+    ensures editions { editions.new ≡ editions_after (receive_answer (holding tile.old editions.old) width height (message column row edition block.now)) editions.old width (message column row edition block.now) }
+    ensures outcome { outcome.new ≡ outcome_after (receive_answer (holding tile.old editions.old) width height (message column row edition block.now)) outcome.old }
+    ensures detail { detail.new ≡ detail_after (of_received (receive_answer (holding tile.old editions.old) width height (message column row edition block.now))) detail.old }
 {
     let answer = station::receive(tile, editions, width, height, column, row, edition, block);
     match answer {

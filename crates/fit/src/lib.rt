@@ -2,8 +2,8 @@
 // compiler makes one turn of four lanes.
 ghost use Rattle.std.specs.Prelude.{◌≡◌, ◌<◌};
 ghost use Rattle.floats.specs.Arithmetic.{◌⊕◌, ◌⊗◌};
-ghost use Rattle.fit.specs.Fit.{fitted as fittedOf};
-ghost use Rattle.fit.specs.Lanes.{lane_of, laneAt, weighed, across as acrossOf, lineLane as lineLaneOf, lineLanes, matrix as matrixOf, fitLanes, ends as endsOf};
+ghost use Rattle.fit.specs.Fit.{fitted as fitted_of};
+ghost use Rattle.fit.specs.Lanes.{lane_of, lane_at, weighed, across as across_of, line_lane as line_lane_of, line_lanes, matrix as matrix_of, fit_lanes, ends as ends_of};
 
 use bcn_util::least_squares::WeightMatrix;
 use floats::Pair;
@@ -73,7 +73,7 @@ fn weigh_four(p: Inter6Palette, x0: f32, x1: f32, x2: f32, x3: f32) -> Lane
 
 fn weigh_lane(p: Inter6Palette, b: &[f32; 16], j: usize) -> Lane
     requires { j < 4 }
-    ensures { result ≡ laneAt p b.now j }
+    ensures { result ≡ lane_at p b.now j }
 {
     weigh_four(p, b[j], b[j + 4], b[j + 8], b[j + 12])
 }
@@ -113,7 +113,7 @@ fn weigh(p: Inter6Palette, b: &[f32; 16]) -> Weighed
 }
 
 fn across(s: [f32; 4]) -> f32
-    ensures { result ≡ acrossOf s }
+    ensures { result ≡ across_of s }
 {
     (s[0] + s[1]) + (s[2] + s[3])
 }
@@ -137,7 +137,7 @@ fn line_four(
 
 fn line_lane(b: &[f32; 16], g: Weighed, e: f32, d: f32, j: usize) -> f32
     requires { j < 4 }
-    ensures { result ≡ lineLaneOf b.now g e d j }
+    ensures { result ≡ line_lane_of b.now g e d j }
 {
     let w0 = g.w0;
     let w1 = g.w1;
@@ -158,7 +158,7 @@ fn line_lane(b: &[f32; 16], g: Weighed, e: f32, d: f32, j: usize) -> f32
 }
 
 fn line_lanes(b: &[f32; 16], g: Weighed, e: f32, d: f32) -> [f32; 4]
-    ensures { result ≡ lineLanes b.now g e d }
+    ensures { result ≡ line_lanes b.now g e d }
 {
     [
         line_lane(b, g, e, d, 0),
@@ -169,7 +169,7 @@ fn line_lanes(b: &[f32; 16], g: Weighed, e: f32, d: f32) -> [f32; 4]
 }
 
 fn matrix(g: Weighed) -> WeightMatrix
-    ensures { result ≡ matrixOf g }
+    ensures { result ≡ matrix_of g }
 {
     let ww = g.ww;
     let wv = g.wv;
@@ -184,7 +184,7 @@ fn matrix(g: Weighed) -> WeightMatrix
 // Called from two places, so that it stays a function of its own, which hands its lanes on in memory: what is written as four neighbours is worked
 // out as one vector.
 fn fit_lanes(b: &[f32; 16], p: Pair) -> Lanes
-    ensures { result ≡ fitLanes b.now p }
+    ensures { result ≡ fit_lanes b.now p }
 {
     let g = weigh(Inter6Palette::new(p.0, p.1), b);
     let m = matrix(g);
@@ -198,7 +198,7 @@ fn fit_lanes(b: &[f32; 16], p: Pair) -> Lanes
 }
 
 fn ends(l: Lanes) -> Pair
-    ensures { result ≡ endsOf l }
+    ensures { result ≡ ends_of l }
 {
     let first = l.first;
     let second = l.second;
@@ -207,7 +207,7 @@ fn ends(l: Lanes) -> Pair
 
 // A blend of -1 or less is rare, and so is a NaN.
 fn fitted_plainly(b: &[f32; 16], p: Pair) -> Pair
-    ensures { result ≡ fittedOf b.now p }
+    ensures { result ≡ fitted_of b.now p }
 {
     let w = Inter6Palette::new(p.0, p.1).block_closest_weights(b);
     let q = bcn_util::least_squares::least_squares(b, &w);
@@ -215,7 +215,7 @@ fn fitted_plainly(b: &[f32; 16], p: Pair) -> Pair
 }
 
 fn fitted(b: &[f32; 16], p: Pair) -> Pair
-    ensures { result ≡ fittedOf b.now p }
+    ensures { result ≡ fitted_of b.now p }
 {
     let l = fit_lanes(b, p);
     if l.above {
@@ -225,7 +225,7 @@ fn fitted(b: &[f32; 16], p: Pair) -> Pair
 }
 
 pub fn fitted_twice(b: &[f32; 16], p: Pair) -> Pair
-    ensures { result ≡ fittedOf b.now (fittedOf b.now p) }
+    ensures { result ≡ fitted_of b.now (fitted_of b.now p) }
 {
     let l = fit_lanes(b, p);
     if l.above {

@@ -9,48 +9,48 @@ use lib.Ieee.Exact.{HasValue}
 use lib.Ieee.Order.{round_mono}
 use lib.Ieee.Back.{round_whole}
 use Rattle.floats.specs.Arithmetic.{f0, f1}
-use Rattle.floats.specs.Helpers.{absOf}
+use Rattle.floats.specs.Helpers.{abs_of}
 use Rattle.floats.specs.Bounds.{Within}
 use Rattle.floats.proofs.Tests.{so, clash}
-use Rattle.floats.proofs.Casts.{plain-le}
-use Rattle.floats.proofs.Signs.{SignedBy, round-signed, round-mirror}
+use Rattle.floats.proofs.Casts.{plain_le}
+use Rattle.floats.proofs.Signs.{SignedBy, round_signed, round_mirror}
 
 -- ---- what `round` gives is within a whole bound of the fraction
-below-whole : (x y : Float) (B : ℕ) → SignedBy false x → HasValue y false B 1 → T (le x y) → Within B x
+below_whole : (x y : Float) (B : ℕ) → SignedBy false x → HasValue y false B 1 → T (le x y) → Within B x
 unfolding le
-below-whole nan y B s v h = absurd s
-below-whole (inf true) y B s v h = absurd (true≢false s)
-below-whole (inf false) nan B s v h = absurd v
-below-whole (inf false) (inf t) B s v h = absurd v
-below-whole (inf false) (fin t n d) B s v h = absurd h
-below-whole (fin true m e) y B s v h = absurd (true≢false s)
-below-whole (fin false m e) nan B s v h = absurd v
-below-whole (fin false m e) (inf t) B s v h = absurd v
-below-whole (fin false m e) (fin true n d) B s v h = absurd (true≢false v.0)
-below-whole (fin false m e) (fin false n d) B s v h =
-    let k : m * up e * down d ≤ n * up d * down e = plain-le (m * up e * down d) (n * up d * down e) (is_true _ h) in
+below_whole nan y B s v h = absurd s
+below_whole (inf true) y B s v h = absurd (true≢false s)
+below_whole (inf false) nan B s v h = absurd v
+below_whole (inf false) (inf t) B s v h = absurd v
+below_whole (inf false) (fin t n d) B s v h = absurd h
+below_whole (fin true m e) y B s v h = absurd (true≢false s)
+below_whole (fin false m e) nan B s v h = absurd v
+below_whole (fin false m e) (inf t) B s v h = absurd v
+below_whole (fin false m e) (fin true n d) B s v h = absurd (true≢false v.0)
+below_whole (fin false m e) (fin false n d) B s v h =
+    let k : m * up e * down d ≤ n * up d * down e = plain_le (m * up e * down d) (n * up d * down e) (is_true _ h) in
     let q : n * up d ≡ B * down d = sym (mul-one (n * up d)) ∙ v.1 in
     le_of_mul-le-mul_right (le_trans k (le_of_eq (ap (λ (z : ℕ). z * down e) q ∙ mul_right_comm B (down d) (down e)))) (down_pos d)
 
-pub neg-within : (B : ℕ) (x : Float) → Within B x → Within B (neg x)
+pub neg_within : (B : ℕ) (x : Float) → Within B x → Within B (neg x)
 unfolding neg
-neg-within B nan h = h
-neg-within B (inf s) h = h
-neg-within B (fin s m e) h = h
+neg_within B nan h = h
+neg_within B (inf s) h = h
+neg_within B (fin s m e) h = h
 
-plain-within : (f : Format) (a c B : ℕ) → 0 < c → a ≤ B * c → B ≤ 2 ^ prec f → Within B (round f false a c)
-plain-within f a c B C h k =
-    below-whole (round f false a c) (round f false B 1) B (round-signed f false a c) (round_whole f false B k)
+plain_within : (f : Format) (a c B : ℕ) → 0 < c → a ≤ B * c → B ≤ 2 ^ prec f → Within B (round f false a c)
+plain_within f a c B C h k =
+    below_whole (round f false a c) (round f false B 1) B (round_signed f false a c) (round_whole f false B k)
     (round_mono f a c B 1 C (zero-lt-suc 0) (le_trans (le_of_eq (mul-one a)) h))
 
-pub round-within : (f : Format) (s : Bool) (a c B : ℕ) → 0 < c → a ≤ B * c → B ≤ 2 ^ prec f → Within B (round f s a c)
-round-within f false a c B C h k = plain-within f a c B C h k
-round-within f true a c B C h k = subst (Within B) (sym (round-mirror f a c)) (neg-within B (round f false a c) (plain-within f a c B C h k))
+pub round_within : (f : Format) (s : Bool) (a c B : ℕ) → 0 < c → a ≤ B * c → B ≤ 2 ^ prec f → Within B (round f s a c)
+round_within f false a c B C h k = plain_within f a c B C h k
+round_within f true a c B C h k = subst (Within B) (sym (round_mirror f a c)) (neg_within B (round f false a c) (plain_within f a c B C h k))
 
 -- ---- the operations
-pub cond-within : (B : ℕ) (t : Bool) (x y : Float) → Within B x → Within B y → Within B (cond t x y)
-cond-within B true x y p q = p
-cond-within B false x y p q = q
+pub cond_within : (B : ℕ) (t : Bool) (x y : Float) → Within B x → Within B y → Within B (cond t x y)
+cond_within B true x y p q = p
+cond_within B false x y p q = q
 
 -- a / p within A is within A over a denominator p * q
 scaled : (a A p q : ℕ) → a ≤ A * p → a * q ≤ A * (p * q)
@@ -71,40 +71,40 @@ less a b x h = omega arith
 less' : (a b x : ℕ) → a + b ≤ x → b - a ≤ x
 less' a b x h = omega arith
 
-pub add-within : (f : Format) (A B : ℕ) (x y : Float) → A + B ≤ 2 ^ prec f → Within A x → Within B y → Within (A + B) (add f x y)
+pub add_within : (f : Format) (A B : ℕ) (x y : Float) → A + B ≤ 2 ^ prec f → Within A x → Within B y → Within (A + B) (add f x y)
 unfolding add
-add-within f A B nan y k p q = absurd p
-add-within f A B (inf s) y k p q = absurd p
-add-within f A B (fin s m e) nan k p q = absurd q
-add-within f A B (fin s m e) (inf t) k p q = absurd q
-add-within f A B (fin s m e) (fin t n d) k p q =
+add_within f A B nan y k p q = absurd p
+add_within f A B (inf s) y k p q = absurd p
+add_within f A B (fin s m e) nan k p q = absurd q
+add_within f A B (fin s m e) (inf t) k p q = absurd q
+add_within f A B (fin s m e) (fin t n d) k p q =
     let a = m * up e * down d in
     let b = n * up d * down e in
     let c = down e * down d in
     let C : 0 < c = mul-pos (down_pos e) (down_pos d) in
     let h : a + b ≤ (A + B) * c = both a b A B c (scaled (m * up e) A (down e) (down d) p) (scaled' (n * up d) B (down d) (down e) q) in
     unfold sum in
-    cond-within (A + B) (beq s t) _ _ (round-within f s (a + b) c (A + B) C h k)
-    (cond-within (A + B) (ltb a b) _ _ (round-within f t (b - a) c (A + B) C (less' a b _ h) k) (round-within f (s && ltb b a) (a - b) c (A + B) C (less a b _ h) k))
+    cond_within (A + B) (beq s t) _ _ (round_within f s (a + b) c (A + B) C h k)
+    (cond_within (A + B) (ltb a b) _ _ (round_within f t (b - a) c (A + B) C (less' a b _ h) k) (round_within f (s && ltb b a) (a - b) c (A + B) C (less a b _ h) k))
 
 pub sub_within : (f : Format) (A B : ℕ) (x y : Float) → A + B ≤ 2 ^ prec f → Within A x → Within B y → Within (A + B) (sub f x y)
 unfolding sub
-sub_within f A B x y k p q = add-within f A B x (neg y) k p (neg-within B y q)
+sub_within f A B x y k p q = add_within f A B x (neg y) k p (neg_within B y q)
 
-pub mul-within : (f : Format) (A B : ℕ) (x y : Float) → A * B ≤ 2 ^ prec f → Within A x → Within B y → Within (A * B) (mul f x y)
+pub mul_within : (f : Format) (A B : ℕ) (x y : Float) → A * B ≤ 2 ^ prec f → Within A x → Within B y → Within (A * B) (mul f x y)
 unfolding mul
-mul-within f A B nan y k p q = absurd p
-mul-within f A B (inf s) y k p q = absurd p
-mul-within f A B (fin s m e) nan k p q = absurd q
-mul-within f A B (fin s m e) (inf t) k p q = absurd q
-mul-within f A B (fin s m e) (fin t n d) k p q =
-    round-within f (unlike s t) (m * up e * (n * up d)) (down e * down d) (A * B) (mul-pos (down_pos e) (down_pos d))
+mul_within f A B nan y k p q = absurd p
+mul_within f A B (inf s) y k p q = absurd p
+mul_within f A B (fin s m e) nan k p q = absurd q
+mul_within f A B (fin s m e) (inf t) k p q = absurd q
+mul_within f A B (fin s m e) (fin t n d) k p q =
+    round_within f (unlike s t) (m * up e * (n * up d)) (down e * down d) (A * B) (mul-pos (down_pos e) (down_pos d))
     (le_trans (mul-le-mul p q) (le_of_eq (simp (mul_assoc, mul_comm, mul_left_comm)))) k
 
-pub abs-within : (B : ℕ) (x : Float) → Within B x → Within B (absOf x)
-abs-within B nan h = h
-abs-within B (inf s) h = h
-abs-within B (fin s m e) h = h
+pub abs_within : (B : ℕ) (x : Float) → Within B x → Within B (abs_of x)
+abs_within B nan h = h
+abs_within B (inf s) h = h
+abs_within B (fin s m e) h = h
 
 -- ---- what a bound says
 pub within_real : (B : ℕ) (x : Float) → Within B x → is_nan x ≡ false
@@ -120,19 +120,19 @@ below_inf B (inf s) p = absurd p
 below_inf B (fin s m e) p = refl
 
 -- a larger bound will do
-pub within-up : (A B : ℕ) (x : Float) → A ≤ B → Within A x → Within B x
-within-up A B nan h p = p
-within-up A B (inf s) h p = p
-within-up A B (fin s m e) h p = le_trans p (mul-le-mul_right (down e) h)
+pub within_up : (A B : ℕ) (x : Float) → A ≤ B → Within A x → Within B x
+within_up A B nan h p = p
+within_up A B (inf s) h p = p
+within_up A B (fin s m e) h p = le_trans p (mul-le-mul_right (down e) h)
 
 -- ---- a value in 0..1 is within 1
-pub unit-within : (x : Float) → le f0 x ≡ true → le x f1 ≡ true → Within 1 x
+pub unit_within : (x : Float) → le f0 x ≡ true → le x f1 ≡ true → Within 1 x
 unfolding le lt of_bits
-unit-within nan p q = clash p refl
-unit-within (inf true) p q = clash p refl
-unit-within (inf false) p q = clash q refl
-unit-within (fin true m e) p q = zero-size (m * up e) (down e) (so p)
+unit_within nan p q = clash p refl
+unit_within (inf true) p q = clash p refl
+unit_within (inf false) p q = clash q refl
+unit_within (fin true m e) p q = zero_size (m * up e) (down e) (so p)
   where
-    zero-size : (n d : ℕ) → T (eqb (0 * d) (n * 1) && eqb (0 * d) 0) → n ≤ 1 * d
-    zero-size n d h = let z : 0 * d ≡ n * 1 = eqb→eq _ _ (and_l (eqb (0 * d) (n * 1)) (eqb (0 * d) 0) h) in omega arith
-unit-within (fin false m e) p q = let k : m * up e * 1 ≤ 1 * 1 * down e = plain-le (m * up e * 1) (1 * 1 * down e) q in omega arith
+    zero_size : (n d : ℕ) → T (eqb (0 * d) (n * 1) && eqb (0 * d) 0) → n ≤ 1 * d
+    zero_size n d h = let z : 0 * d ≡ n * 1 = eqb→eq _ _ (and_l (eqb (0 * d) (n * 1)) (eqb (0 * d) 0) h) in omega arith
+unit_within (fin false m e) p q = let k : m * up e * 1 ≤ 1 * 1 * down e = plain_le (m * up e * 1) (1 * 1 * down e) q in omega arith

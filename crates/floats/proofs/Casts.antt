@@ -9,18 +9,18 @@ use lib.Ieee.Casts.{to_unsigned-lt}
 use mir.ValLaws.{to_z-of_z}
 use borrow.Author.Tests.{lt-leb}
 use Rattle.floats.specs.Arithmetic.{bits, whole, f0, f1, f255, f2^23}
-use Rattle.floats.specs.Helpers.{laneMin, laneMax, byte_of, byteUpTo7}
-use Rattle.floats.proofs.Tests.{so, iff, clash, leb-not-ltb}
-use Rattle.floats.proofs.Fractions.{le-plain}
-use Rattle.floats.proofs.SignedOrder.{zero-factor}
-use Rattle.floats.proofs.Order.{le_right, lt-right, lt-of-not, le-of-not, le_of_lt, lt_trans, lt-le-trans}
+use Rattle.floats.specs.Helpers.{lane_min, lane_max, byte_of, byte_up_to7}
+use Rattle.floats.proofs.Tests.{so, iff, clash, leb_not_ltb}
+use Rattle.floats.proofs.Fractions.{le_plain}
+use Rattle.floats.proofs.SignedOrder.{zero_factor}
+use Rattle.floats.proofs.Order.{le_right, lt_right, lt_of_not, le_of_not, le_of_lt, lt_trans, lt_le_trans}
 
 -- ---- a cast keeps the order
-less-min : (p q c : ℕ) → p ≤ q → min p c ≤ min q c
-less-min p q c h = omega arith
+less_min : (p q c : ℕ) → p ≤ q → min p c ≤ min q c
+less_min p q c h = omega arith
 
-zero-min : (p q c : ℕ) → p ≡ 0 → min p c ≤ q
-zero-min p q c h = omega arith
+zero_min : (p q c : ℕ) → p ≡ 0 → min p c ≤ q
+zero_min p q c h = omega arith
 
 at_most : (p c : ℕ) → min p c ≤ c
 at_most p c = omega arith
@@ -28,40 +28,40 @@ at_most p c = omega arith
 from_zero : (n : ℕ) → 0 ≤ n
 from_zero n = omega arith
 
-pub plain-le : (a b : ℕ) → (ltb a b || (eqb a b && true)) ≡ true → a ≤ b
-plain-le a b h = leb-true a b (sym (leb-not-ltb a b) ∙ sym (le-plain a b) ∙ h)
+pub plain_le : (a b : ℕ) → (ltb a b || (eqb a b && true)) ≡ true → a ≤ b
+plain_le a b h = leb-true a b (sym (leb_not_ltb a b) ∙ sym (le_plain a b) ∙ h)
 
-pub cast-mono : (w : ℕ) (x y : Float) → le x y ≡ true → to_unsigned w x ≤ to_unsigned w y
+pub cast_mono : (w : ℕ) (x y : Float) → le x y ≡ true → to_unsigned w x ≤ to_unsigned w y
 unfolding le lt to_unsigned
-cast-mono w nan y h = clash h refl
-cast-mono w (inf true) y h = from_zero _
-cast-mono w (inf false) nan h = clash h refl
-cast-mono w (inf false) (inf true) h = clash h refl
-cast-mono w (inf false) (inf false) h = omega arith
-cast-mono w (inf false) (fin t n d) h = clash h refl
-cast-mono w (fin true m e) y h = from_zero _
-cast-mono w (fin false m e) nan h = clash h refl
-cast-mono w (fin false m e) (inf true) h = clash h refl
-cast-mono w (fin false m e) (inf false) h = at_most (m * up e / down e) (2 ^ w - 1)
-cast-mono w (fin false m e) (fin true n d) h =
+cast_mono w nan y h = clash h refl
+cast_mono w (inf true) y h = from_zero _
+cast_mono w (inf false) nan h = clash h refl
+cast_mono w (inf false) (inf true) h = clash h refl
+cast_mono w (inf false) (inf false) h = omega arith
+cast_mono w (inf false) (fin t n d) h = clash h refl
+cast_mono w (fin true m e) y h = from_zero _
+cast_mono w (fin false m e) nan h = clash h refl
+cast_mono w (fin false m e) (inf true) h = clash h refl
+cast_mono w (fin false m e) (inf false) h = at_most (m * up e / down e) (2 ^ w - 1)
+cast_mono w (fin false m e) (fin true n d) h =
     let z : m * up e * down d ≡ 0 = eqb→eq _ _ (and_r (eqb (m * up e * down d) (n * up d * down e)) (eqb (m * up e * down d) 0) (so h)) in
     let q : m * up e / down e ≤ 0 / 1 = div_mono (m * up e) (down e) 0 1 (down_pos e) (lit< tt) (none (m * up e) (down d) (down e) (down_pos d) z) in
-    zero-min (m * up e / down e) 0 (2 ^ w - 1) (nothing _ q)
+    zero_min (m * up e / down e) 0 (2 ^ w - 1) (nothing _ q)
   where
     none : (a d p : ℕ) → 0 < d → a * d ≡ 0 → a * 1 ≤ 0 * p
-    none a d p D z = let e : a ≡ 0 = zero-factor a d D z in omega arith
+    none a d p D z = let e : a ≡ 0 = zero_factor a d D z in omega arith
 
     nothing : (n : ℕ) → n ≤ 0 → n ≡ 0
     nothing n h = omega arith
-cast-mono w (fin false m e) (fin false n d) h =
-    less-min (m * up e / down e) (n * up d / down d) (2 ^ w - 1)
-    (div_mono (m * up e) (down e) (n * up d) (down d) (down_pos e) (down_pos d) (plain-le (m * up e * down d) (n * up d * down e) h))
+cast_mono w (fin false m e) (fin false n d) h =
+    less_min (m * up e / down e) (n * up d / down d) (2 ^ w - 1)
+    (div_mono (m * up e) (down e) (n * up d) (down d) (down_pos e) (down_pos d) (plain_le (m * up e * down d) (n * up d * down e) h))
 
-pub byteOf-mono : (x y : Float) → le x y ≡ true → byte_of x ≤ byte_of y
-byteOf-mono x y h = cast-mono 8 x y h
+pub byte_of_mono : (x y : Float) → le x y ≡ true → byte_of x ≤ byte_of y
+byte_of_mono x y h = cast_mono 8 x y h
 
-pub byteOf-le : (x : Float) → byte_of x ≤ 255
-byteOf-le x = let h : byte_of x < 2 ^ 8 = to_unsigned-lt 8 x in omega arith
+pub byte_of_le : (x : Float) → byte_of x ≤ 255
+byte_of_le x = let h : byte_of x < 2 ^ 8 = to_unsigned-lt 8 x in omega arith
 
 -- ---- the test against a whole number k in the range
 none : (k : ℕ) → 0 < k → false ≡ leb k 0
@@ -97,45 +97,45 @@ threshold w n j (inf true) h g = none (n * 2 ^ j) h
 threshold w n j (inf false) h g = all (n * 2 ^ j) (2 ^ w) g
 threshold w n j (fin true m e) h g = opposite (n * 2 ^ j) (down e) (m * up e * 1) (mul-pos h (down_pos e)) ∙ none (n * 2 ^ j) h
 threshold w n j (fin false m e) h g =
-    le-plain (n * 2 ^ j * down e) (m * up e * 1) ∙ leb-not-ltb (n * 2 ^ j * down e) (m * up e * 1) ∙ cut w (n * 2 ^ j) (m * up e) (down e) (down_pos e) g
+    le_plain (n * 2 ^ j * down e) (m * up e * 1) ∙ leb_not_ltb (n * 2 ^ j * down e) (m * up e * 1) ∙ cut w (n * 2 ^ j) (m * up e) (down e) (down_pos e) g
 
 at_1 : (x : Float) → le f1 x ≡ leb 1 (byte_of x)
 unfolding of_bits
 at_1 x = threshold 8 1 0 x (lit< tt) (lit< tt)
 
 -- ---- the cast to a byte, by way of 64 bits
-at-255 : (x : Float) → le f255 x ≡ leb 255 (byte_of x)
+at_255 : (x : Float) → le f255 x ≡ leb 255 (byte_of x)
 unfolding of_bits
-at-255 x = threshold 8 255 0 x (lit< tt) (lit< tt)
+at_255 x = threshold 8 255 0 x (lit< tt) (lit< tt)
 
 pub byte_full : (x : Float) → le f255 x ≡ true → 255 ≡ byte_of x
-byte_full x h = let g : 255 ≤ byte_of x = leb-true _ _ (sym (at-255 x) ∙ h) in let l : byte_of x ≤ 255 = byteOf-le x in omega arith
+byte_full x h = let g : 255 ≤ byte_of x = leb-true _ _ (sym (at_255 x) ∙ h) in let l : byte_of x ≤ 255 = byte_of_le x in omega arith
 
-pub byte-empty : (x : Float) → le f1 x ≡ false → 0 ≡ byte_of x
-byte-empty x h = let g : byte_of x < 1 = leb-false _ _ (sym (at_1 x) ∙ h) in omega arith
+pub byte_empty : (x : Float) → le f1 x ≡ false → 0 ≡ byte_of x
+byte_empty x h = let g : byte_of x < 1 = leb-false _ _ (sym (at_1 x) ∙ h) in omega arith
 
-pub byte-narrow : (x : Float) → byte_of x ≡ min (to_unsigned 64 x) 255
+pub byte_narrow : (x : Float) → byte_of x ≡ min (to_unsigned 64 x) 255
 unfolding to_unsigned
-byte-narrow nan = refl
-byte-narrow (inf true) = refl
-byte-narrow (inf false) = refl
-byte-narrow (fin true m e) = refl
-byte-narrow (fin false m e) = caps (m * up e / down e) (2 ^ 8 - 1) (2 ^ 64 - 1) (lit≤ tt)
+byte_narrow nan = refl
+byte_narrow (inf true) = refl
+byte_narrow (inf false) = refl
+byte_narrow (fin true m e) = refl
+byte_narrow (fin false m e) = caps (m * up e / down e) (2 ^ 8 - 1) (2 ^ 64 - 1) (lit≤ tt)
   where
     caps : (q a b : ℕ) → a ≤ b → min q a ≡ min (min q b) a
     caps q a b h = omega arith
 
-pub byte-under : (x : Float) → le f255 x ≡ false → to_unsigned 64 x < 255
-byte-under x h = let g : byte_of x < 255 = leb-false _ _ (sym (at-255 x) ∙ h) in omega (arith, byte-narrow x)
+pub byte_under : (x : Float) → le f255 x ≡ false → to_unsigned 64 x < 255
+byte_under x h = let g : byte_of x < 255 = leb-false _ _ (sym (at_255 x) ∙ h) in omega (arith, byte_narrow x)
 
 -- what std's truncation asks of an x from 1 to below 255
 pub cut_low : (x : Float) → le f1 x ≡ true → T (lt (fin true 1 (pos 0)) x)
 unfolding lt of_bits
-cut_low x h = so (lt-le-trans (fin true 1 (pos 0)) f1 x refl h)
+cut_low x h = so (lt_le_trans (fin true 1 (pos 0)) f1 x refl h)
 
 pub cut_high : (x : Float) → le f1 x ≡ true → le f255 x ≡ false → T (lt x (fin false 1 (pos 64)))
 unfolding lt of_bits is_nan
-cut_high x h g = so (lt_trans x f255 (fin false 1 (pos 64)) (lt-of-not x f255 (le_right f1 x h) refl g) refl)
+cut_high x h g = so (lt_trans x f255 (fin false 1 (pos 64)) (lt_of_not x f255 (le_right f1 x h) refl g) refl)
 
 -- ---- the cast capped at 7, by way of a float from 0 to 7
 -- 7.0
@@ -147,14 +147,14 @@ unfolding of_bits
 at_7 x = threshold 8 7 0 x (lit< tt) (lit< tt)
 
 abbrev UpTo7 : Float → Float → Type 0
-UpTo7 x y = (le f0 y ≡ true) × (lt y f2^23 ≡ true) × (to_unsigned 64 y ≡ byteUpTo7 x)
+UpTo7 x y = (le f0 y ≡ true) × (lt y f2^23 ≡ true) × (to_unsigned 64 y ≡ byte_up_to7 x)
 
-pub kept-is : (x : Float) → UpTo7 x (laneMin (laneMax x f0) seven)
-kept-is x = go (lt f0 x) refl
+pub kept_is : (x : Float) → UpTo7 x (lane_min (lane_max x f0) seven)
+kept_is x = go (lt f0 x) refl
   where
-    not-1 : (t : Bool) → le f1 x ≡ t → lt f0 x ≡ false → t ≡ false
-    not-1 true g h = clash (lt-le-trans f0 f1 x (unfold lt of_bits in refl) g) h
-    not-1 false g h = refl
+    not_1 : (t : Bool) → le f1 x ≡ t → lt f0 x ≡ false → t ≡ false
+    not_1 true g h = clash (lt_le_trans f0 f1 x (unfold lt of_bits in refl) g) h
+    not_1 false g h = refl
 
     capped : (n : ℕ) → 7 ≤ n → 7 ≡ min n 7
     capped n h = omega arith
@@ -164,25 +164,25 @@ kept-is x = go (lt f0 x) refl
 
     under : lt f0 x ≡ true → (t : Bool) → lt x seven ≡ t → UpTo7 x (cond t x seven)
     under h true g =
-        let c : to_unsigned 64 x ≤ 7 = unfold to_unsigned of_bits in cast-mono 64 x seven (le_of_lt x seven g) in
-        (le_of_lt f0 x h, lt_trans x seven f2^23 g (unfold lt of_bits in refl), omega (arith, byte-narrow x))
+        let c : to_unsigned 64 x ≤ 7 = unfold to_unsigned of_bits in cast_mono 64 x seven (le_of_lt x seven g) in
+        (le_of_lt f0 x h, lt_trans x seven f2^23 g (unfold lt of_bits in refl), omega (arith, byte_narrow x))
     under h false g =
-        let c : 7 ≤ byte_of x = leb-true _ _ (sym (at_7 x) ∙ le-of-not seven x (unfold is_nan of_bits in refl) (lt-right f0 x h) g) in
+        let c : 7 ≤ byte_of x = leb-true _ _ (sym (at_7 x) ∙ le_of_not seven x (unfold is_nan of_bits in refl) (lt_right f0 x h) g) in
         (unfold le lt of_bits in refl, unfold lt of_bits in refl, unfold to_unsigned of_bits in capped (byte_of x) c)
 
-    go : (t : Bool) → lt f0 x ≡ t → UpTo7 x (laneMin (cond t x f0) seven)
+    go : (t : Bool) → lt f0 x ≡ t → UpTo7 x (lane_min (cond t x f0) seven)
     go true h = under h (lt x seven) refl
-    go false h = unfold le lt to_unsigned of_bits in (refl, refl, none_of (byte_of x) (byte-empty x (not-1 (le f1 x) refl h)))
+    go false h = unfold le lt to_unsigned of_bits in (refl, refl, none_of (byte_of x) (byte_empty x (not_1 (le f1 x) refl h)))
 
 -- a whole number up to 7 as a float, cast back by way of i32
-pub up-to-7-le : (x : Float) → byteUpTo7 x ≤ 7
-up-to-7-le x = capped (byte_of x)
+pub up_to_7_le : (x : Float) → byte_up_to7 x ≤ 7
+up_to_7_le x = capped (byte_of x)
   where
     capped : (n : ℕ) → min n 7 ≤ 7
     capped n = omega arith
 
-pub up-to-7-back : (x : Float) → T (in_signed binary32 31 (whole (byteUpTo7 x))) × (to_signed 31 (whole (byteUpTo7 x)) ≡ pos (byteUpTo7 x))
-up-to-7-back x = positive_back binary32 31 (byteUpTo7 x) (few (byte_of x)) (small (byte_of x))
+pub up_to_7_back : (x : Float) → T (in_signed binary32 31 (whole (byte_up_to7 x))) × (to_signed 31 (whole (byte_up_to7 x)) ≡ pos (byte_up_to7 x))
+up_to_7_back x = positive_back binary32 31 (byte_up_to7 x) (few (byte_of x)) (small (byte_of x))
   where
     few : (n : ℕ) → T (in_float binary32 (pos (min n 7)))
     few n = unfold in_float in le→leb (min n 7) (2 ^ 24) (omega arith)
@@ -194,5 +194,5 @@ up-to-7-back x = positive_back binary32 31 (byteUpTo7 x) (few (byte_of x)) (smal
 read_back : (k : ℕ) → k ≤ 7 → to_z w32 (of_z w32 (pos k)) ≡ pos k
 read_back k h = to_z-of_z w32 (pos k) (record { sfits = omega arith })
 
-pub up-to-7-read : (x : Float) → to_z w32 (of_z w32 (to_signed 31 (whole (byteUpTo7 x)))) ≡ pos (byteUpTo7 x)
-up-to-7-read x = rw (up-to-7-back x).1 (read_back (byteUpTo7 x) (up-to-7-le x))
+pub up_to_7_read : (x : Float) → to_z w32 (of_z w32 (to_signed 31 (whole (byte_up_to7 x)))) ≡ pos (byte_up_to7 x)
+up_to_7_read x = rw (up_to_7_back x).1 (read_back (byte_up_to7 x) (up_to_7_le x))

@@ -23,18 +23,18 @@ same_bits m e n d h =
     scaled : (a d b e k : ℕ) → a * d ≡ b * e → a * k * d ≡ b * k * e
     scaled a d b e k h = mul_right_comm a k d ∙ ap (λ (z : ℕ). z * k) h ∙ mul_right_comm b e k
 
-pub fraction-unique : (m : ℕ) (e : ℤ) (n : ℕ) (d : ℤ) → T (fits binary32 (fin false m e)) → T (fits binary32 (fin false n d)) → m * up e * down d ≡ n * up d * down e → fin false m e ≡ fin false n d
-fraction-unique m e n d f g h = sym (of_bits-to_bits binary32 (fin false m e) f) ∙ ap (of_bits binary32) (same_bits m e n d h) ∙ of_bits-to_bits binary32 (fin false n d) g
+pub fraction_unique : (m : ℕ) (e : ℤ) (n : ℕ) (d : ℤ) → T (fits binary32 (fin false m e)) → T (fits binary32 (fin false n d)) → m * up e * down d ≡ n * up d * down e → fin false m e ≡ fin false n d
+fraction_unique m e n d f g h = sym (of_bits-to_bits binary32 (fin false m e) f) ∙ ap (of_bits binary32) (same_bits m e n d h) ∙ of_bits-to_bits binary32 (fin false n d) g
 
-pub value-unique : (x y : Float) (a c : ℕ) → 0 < c → T (fits binary32 x) → T (fits binary32 y) → HasValue x false a c → HasValue y false a c → x ≡ y
-value-unique nan y a c C f g p q = absurd p
-value-unique (inf s) y a c C f g p q = absurd p
-value-unique (fin s m e) nan a c C f g p q = absurd q
-value-unique (fin s m e) (inf t) a c C f g p q = absurd q
-value-unique (fin true m e) (fin t n d) a c C f g p q = clash refl p.0
-value-unique (fin false m e) (fin true n d) a c C f g p q = clash refl q.0
-value-unique (fin false m e) (fin false n d) a c C f g p q =
-    fraction-unique m e n d f g
+pub value_unique : (x y : Float) (a c : ℕ) → 0 < c → T (fits binary32 x) → T (fits binary32 y) → HasValue x false a c → HasValue y false a c → x ≡ y
+value_unique nan y a c C f g p q = absurd p
+value_unique (inf s) y a c C f g p q = absurd p
+value_unique (fin s m e) nan a c C f g p q = absurd q
+value_unique (fin s m e) (inf t) a c C f g p q = absurd q
+value_unique (fin true m e) (fin t n d) a c C f g p q = clash refl p.0
+value_unique (fin false m e) (fin true n d) a c C f g p q = clash refl q.0
+value_unique (fin false m e) (fin false n d) a c C f g p q =
+    fraction_unique m e n d f g
     (eq_of_mul-eq-mul_right c C (m * up e * down d) (n * up d * down e)
     (mul_right_comm (m * up e) (down d) c ∙ ap (λ (z : ℕ). z * down d) p.1 ∙ mul_right_comm a (down e) (down d) ∙ ap (λ (z : ℕ). z * down e) (sym q.1) ∙ mul_right_comm (n * up d) c (down e)))
 
@@ -50,19 +50,19 @@ module _ (m : ℕ) (e : ℤ) where
       let three = and_l (odd && few && deep) large p in
       (ltb→lt _ _ (and_r odd few (and_l (odd && few) deep three)), leb→le _ _ (and_r (odd && few) deep three), ltb→lt _ _ (and_r (odd && few && deep) large p))
 
-  scaled-up : (k : ℕ) → suc m * 2 ^ k * 2 ^ 149 ≡ suc m * 2 ^ (k + 149)
-  scaled-up k = mul_assoc (suc m) (2 ^ k) (2 ^ 149) ∙ ap (λ (z : ℕ). suc m * z) (sym (pow-add 2 k 149))
+  scaled_up : (k : ℕ) → suc m * 2 ^ k * 2 ^ 149 ≡ suc m * 2 ^ (k + 149)
+  scaled_up k = mul_assoc (suc m) (2 ^ k) (2 ^ 149) ∙ ap (λ (z : ℕ). suc m * z) (sym (pow-add 2 k 149))
 
-round-held : (m : ℕ) (e : ℤ) → T (fits binary32 (fin false (suc m) e)) → HasValue (round binary32 false (suc m * up e) (down e)) false (suc m * up e) (down e)
-round-held m (pos k) p =
+round_held : (m : ℕ) (e : ℤ) → T (fits binary32 (fin false (suc m) e)) → HasValue (round binary32 false (suc m * up e) (down e)) false (suc m * up e) (down e)
+round_held m (pos k) p =
     let d = digits m (pos k) p in
     let fine : suc m * 2 ^ (k + 149) < 2 ^ (149 + 128) =
-    subst (λ (z : ℕ). z < 2 ^ (149 + 128)) (scaled-up m (pos k) k) (lt_of_lt_of_le (mul-lt-mul_of_pos_right d.2 (pow_pos 149)) (le_of_eq (top 1))) in
-    round_exact binary32 false (suc m * 2 ^ k) 1 (suc m) (k + 149) (pow_pos 0) d.0 fine (scaled-up m (pos k) k ∙ sym (mul-one _))
+    subst (λ (z : ℕ). z < 2 ^ (149 + 128)) (scaled_up m (pos k) k) (lt_of_lt_of_le (mul-lt-mul_of_pos_right d.2 (pow_pos 149)) (le_of_eq (top 1))) in
+    round_exact binary32 false (suc m * 2 ^ k) 1 (suc m) (k + 149) (pow_pos 0) d.0 fine (scaled_up m (pos k) k ∙ sym (mul-one _))
   where
     top : (n : ℕ) → 2 ^ 128 * 1 * 2 ^ 149 ≡ 2 ^ (149 + 128)
     top n = refl
-round-held m (negsuc k) p =
+round_held m (negsuc k) p =
     let d = digits m (negsuc k) p in
     let K : suc k ≤ 149 = deep (suc k) d.1 in
     let j = 149 - suc k in
@@ -76,10 +76,10 @@ round-held m (negsuc k) p =
     small : (j : ℕ) → suc k ≤ 149 → 24 + (149 - suc k) ≤ 149 + 128
     small j h = omega arith
 
-pub round-fixed : (m : ℕ) (e : ℤ) → T (fits binary32 (fin false m e)) → round binary32 false (m * up e) (down e) ≡ fin false m e
-round-fixed zero e p = at_zero e (zero_exp e (unfold fits in p))
+pub round_fixed : (m : ℕ) (e : ℤ) → T (fits binary32 (fin false m e)) → round binary32 false (m * up e) (down e) ≡ fin false m e
+round_fixed zero e p = at_zero e (zero_exp e (unfold fits in p))
   where
     at_zero : (e : ℤ) → e ≡ pos 0 → round binary32 false (0 * up e) (down e) ≡ fin false 0 e
     at_zero e h = rw h (unfold round in refl)
-round-fixed (suc m) e p =
-    value-unique (round binary32 false (suc m * up e) (down e)) (fin false (suc m) e) (suc m * up e) (down e) (down_pos e) (round-fits binary32 false (suc m * up e) (down e)) p (round-held m e p) (refl, refl)
+round_fixed (suc m) e p =
+    value_unique (round binary32 false (suc m * up e) (down e)) (fin false (suc m) e) (suc m * up e) (down e) (down_pos e) (round-fits binary32 false (suc m * up e) (down e)) p (round_held m e p) (refl, refl)

@@ -5,8 +5,8 @@ use lib.Ieee.Fits.{round_is, up_pos, eq→eqb}
 use lib.Ieee.Order.{drop, kept}
 use Rattle.floats.specs.Arithmetic.{f0}
 use Rattle.floats.proofs.Tests.{iff}
-use Rattle.floats.proofs.Fractions.{le-mix, le-over}
-use Rattle.floats.proofs.Order.{le-of-not}
+use Rattle.floats.proofs.Fractions.{le_mix, le_over}
+use Rattle.floats.proofs.Order.{le_of_not}
 
 -- ---- x has the sign s, and is no NaN
 abbrev pub SignedBy : Bool → Float → Type 0
@@ -14,64 +14,64 @@ SignedBy s nan = ⊥
 SignedBy s (inf t) = t ≡ s
 SignedBy s (fin t m e) = t ≡ s
 
-pub round-signed : (f : Format) (s : Bool) (a c : ℕ) → SignedBy s (round f s a c)
-round-signed f s a c =
+pub round_signed : (f : Format) (s : Bool) (a c : ℕ) → SignedBy s (round f s a c)
+round_signed f s a c =
     let n = a * 2 ^ low f in
-    subst (SignedBy s) (sym (round_is f s a c)) (in-units (kept (prec f) n c) (drop (prec f) n c))
+    subst (SignedBy s) (sym (round_is f s a c)) (in_units (kept (prec f) n c) (drop (prec f) n c))
   where
-    in-odd : (d q k l : ℕ) → SignedBy s (odd d s q k l)
-    in-odd d zero k l = unfold odd in refl
-    in-odd d (suc q) k l = unfold odd in refl
+    in_odd : (d q k l : ℕ) → SignedBy s (odd d s q k l)
+    in_odd d zero k l = unfold odd in refl
+    in_odd d (suc q) k l = unfold odd in refl
 
     pick : (q k : ℕ) (t : Bool) → SignedBy s (cond t (odd (suc (prec f)) s q k (low f)) (inf s))
-    pick q k true = in-odd (suc (prec f)) q k (low f)
+    pick q k true = in_odd (suc (prec f)) q k (low f)
     pick q k false = refl
 
-    in-units : (q k : ℕ) → SignedBy s (units f s q k)
-    in-units q k = unfold units in pick q k (ltb (q * 2 ^ k) (2 ^ (low f + suc (emax f))))
+    in_units : (q k : ℕ) → SignedBy s (units f s q k)
+    in_units q k = unfold units in pick q k (ltb (q * 2 ^ k) (2 ^ (low f + suc (emax f))))
 
-pub round-mirror : (f : Format) (a c : ℕ) → round f true a c ≡ neg (round f false a c)
-round-mirror f a c =
+pub round_mirror : (f : Format) (a c : ℕ) → round f true a c ≡ neg (round f false a c)
+round_mirror f a c =
     let n = a * 2 ^ low f in
-    round_is f true a c ∙ in-units (kept (prec f) n c) (drop (prec f) n c) ∙ ap neg (sym (round_is f false a c))
+    round_is f true a c ∙ in_units (kept (prec f) n c) (drop (prec f) n c) ∙ ap neg (sym (round_is f false a c))
   where
-    in-odd : (d q k l : ℕ) → odd d true q k l ≡ neg (odd d false q k l)
-    in-odd d zero k l = unfold odd neg in refl
-    in-odd d (suc q) k l = unfold odd neg in refl
+    in_odd : (d q k l : ℕ) → odd d true q k l ≡ neg (odd d false q k l)
+    in_odd d zero k l = unfold odd neg in refl
+    in_odd d (suc q) k l = unfold odd neg in refl
 
     pick : (q k : ℕ) (t : Bool) → cond t (odd (suc (prec f)) true q k (low f)) (inf true) ≡ neg (cond t (odd (suc (prec f)) false q k (low f)) (inf false))
-    pick q k true = in-odd (suc (prec f)) q k (low f)
+    pick q k true = in_odd (suc (prec f)) q k (low f)
     pick q k false = unfold neg in refl
 
-    in-units : (q k : ℕ) → units f true q k ≡ neg (units f false q k)
-    in-units q k = unfold units in pick q k (ltb (q * 2 ^ k) (2 ^ (low f + suc (emax f))))
+    in_units : (q k : ℕ) → units f true q k ≡ neg (units f false q k)
+    in_units q k = unfold units in pick q k (ltb (q * 2 ^ k) (2 ^ (low f + suc (emax f))))
 
 -- ---- negation
 eqb_comm : (a b : ℕ) → eqb a b ≡ eqb b a
 eqb_comm a b = iff _ _ (λ h. eq→eqb (sym (eqb→eq a b h))) (λ h. eq→eqb (sym (eqb→eq b a h)))
 
-pub neg-le : (x y : Float) → le x y ≡ le (neg y) (neg x)
+pub neg_le : (x y : Float) → le x y ≡ le (neg y) (neg x)
 unfolding le lt eq neg
-neg-le nan nan = refl
-neg-le nan (inf t) = refl
-neg-le nan (fin t n d) = refl
-neg-le (inf s) nan = refl
-neg-le (inf true) (inf true) = refl
-neg-le (inf true) (inf false) = refl
-neg-le (inf false) (inf true) = refl
-neg-le (inf false) (inf false) = refl
-neg-le (inf true) (fin t n d) = refl
-neg-le (inf false) (fin t n d) = refl
-neg-le (fin s m e) nan = refl
-neg-le (fin s m e) (inf true) = refl
-neg-le (fin s m e) (inf false) = refl
-neg-le (fin false m e) (fin false n d) = ap (λ (k : Bool). ltb (m * up e * down d) (n * up d * down e) || (k && true)) (eqb_comm (m * up e * down d) (n * up d * down e))
-neg-le (fin false m e) (fin true n d) = zeros (m * up e * down d) (n * up d * down e)
+neg_le nan nan = refl
+neg_le nan (inf t) = refl
+neg_le nan (fin t n d) = refl
+neg_le (inf s) nan = refl
+neg_le (inf true) (inf true) = refl
+neg_le (inf true) (inf false) = refl
+neg_le (inf false) (inf true) = refl
+neg_le (inf false) (inf false) = refl
+neg_le (inf true) (fin t n d) = refl
+neg_le (inf false) (fin t n d) = refl
+neg_le (fin s m e) nan = refl
+neg_le (fin s m e) (inf true) = refl
+neg_le (fin s m e) (inf false) = refl
+neg_le (fin false m e) (fin false n d) = ap (λ (k : Bool). ltb (m * up e * down d) (n * up d * down e) || (k && true)) (eqb_comm (m * up e * down d) (n * up d * down e))
+neg_le (fin false m e) (fin true n d) = zeros (m * up e * down d) (n * up d * down e)
   where
     zeros : (a b : ℕ) → (eqb a b && eqb a 0) ≡ (eqb b a && eqb b 0)
-    zeros a b = le-mix a b ∙ ap (λ (k : ℕ). not (ltb 0 k)) (add_comm b a) ∙ sym (le-mix b a)
-neg-le (fin true m e) (fin false n d) = le-over (m * up e * down d) (n * up d * down e) ∙ sym (le-over (n * up d * down e) (m * up e * down d))
-neg-le (fin true m e) (fin true n d) = ap (λ (k : Bool). ltb (n * up d * down e) (m * up e * down d) || (k && true)) (eqb_comm (m * up e * down d) (n * up d * down e))
+    zeros a b = le_mix a b ∙ ap (λ (k : ℕ). not (ltb 0 k)) (add_comm b a) ∙ sym (le_mix b a)
+neg_le (fin true m e) (fin false n d) = le_over (m * up e * down d) (n * up d * down e) ∙ sym (le_over (n * up d * down e) (m * up e * down d))
+neg_le (fin true m e) (fin true n d) = ap (λ (k : Bool). ltb (n * up d * down e) (m * up e * down d) || (k && true)) (eqb_comm (m * up e * down d) (n * up d * down e))
 
 -- ---- zeros, and what is not zero
 big : (p : ℕ) → 0 < p → p * 2 * 1 ≡ 1 → ⊥
@@ -86,13 +86,13 @@ zero_exp (pos zero) h = refl
 zero_exp (pos (suc k)) h = absurd (big (2 ^ k) (pow_pos k) (subst (λ (n : ℕ). n * 1 ≡ 1) (pow-suc 2 k) (eqb→eq _ _ h)))
 zero_exp (negsuc k) h = absurd (big' (2 ^ k) (pow_pos k) (subst (λ (n : ℕ). 1 * n ≡ 1) (pow-suc 2 k) (eqb→eq _ _ h)))
 
-suc-pos : (m : ℕ) → 0 < suc m
-suc-pos m = omega arith
+suc_pos : (m : ℕ) → 0 < suc m
+suc_pos m = omega arith
 
 -- what is not zero, and negative
-pub under-zero : (m : ℕ) (e : ℤ) → lt (fin true (suc m) e) f0 ≡ true
+pub under_zero : (m : ℕ) (e : ℤ) → lt (fin true (suc m) e) f0 ≡ true
 unfolding lt of_bits
-under-zero m e = lt-ltb 0 (suc m * up e * 1 + 0 * down e) (sum (suc m * up e) (down e) (mul-pos (suc-pos m) (up_pos e)))
+under_zero m e = lt-ltb 0 (suc m * up e * 1 + 0 * down e) (sum (suc m * up e) (down e) (mul-pos (suc_pos m) (up_pos e)))
   where
     sum : (a d : ℕ) → 0 < a → 0 < a * 1 + 0 * d
     sum a d h = omega arith
@@ -102,7 +102,7 @@ pub over_zero : (m : ℕ) (e : ℤ) → (lt (fin false (suc m) e) f0 ≡ false) 
 unfolding lt eq of_bits
 over_zero m e = (
   le-ltb (suc m * up e * 1) (0 * down e) (under (suc m * up e) (down e)),
-  ap (λ (t : Bool). t && true) (ne_eqb (suc m * up e * 1) (0 * down e) (other (suc m * up e) (down e) (mul-pos (suc-pos m) (up_pos e)))),
+  ap (λ (t : Bool). t && true) (ne_eqb (suc m * up e * 1) (0 * down e) (other (suc m * up e) (down e) (mul-pos (suc_pos m) (up_pos e)))),
 )
   where
     under : (a d : ℕ) → 0 * d ≤ a * 1
@@ -112,4 +112,4 @@ over_zero m e = (
     other a d h e = omega arith
 
 pub above_zero : (m : ℕ) (e : ℤ) → le f0 (fin false (suc m) e) ≡ true
-above_zero m e = le-of-not f0 (fin false (suc m) e) (unfold is_nan of_bits in refl) (unfold is_nan in refl) (over_zero m e).0
+above_zero m e = le_of_not f0 (fin false (suc m) e) (unfold is_nan of_bits in refl) (unfold is_nan in refl) (over_zero m e).0

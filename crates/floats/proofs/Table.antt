@@ -30,11 +30,11 @@ at f (suc n) t k h =
     (eq-or-lt_of_le (le_of_suc-le-suc h))
 
 -- ---- floats as data
-abbrev same-exp : ℤ → ℤ → Bool
-same-exp (pos a) (pos b) = eqb a b
-same-exp (pos a) (negsuc b) = false
-same-exp (negsuc a) (pos b) = false
-same-exp (negsuc a) (negsuc b) = eqb a b
+abbrev same_exp : ℤ → ℤ → Bool
+same_exp (pos a) (pos b) = eqb a b
+same_exp (pos a) (negsuc b) = false
+same_exp (negsuc a) (pos b) = false
+same_exp (negsuc a) (negsuc b) = eqb a b
 
 abbrev pub same : Float → Float → Bool
 same nan nan = true
@@ -45,7 +45,7 @@ same (inf s) (inf t) = beq s t
 same (inf s) (fin t n d) = false
 same (fin s m e) nan = false
 same (fin s m e) (inf t) = false
-same (fin s m e) (fin t n d) = both (beq s t) (both (eqb m n) (same-exp e d))
+same (fin s m e) (fin t n d) = both (beq s t) (both (eqb m n) (same_exp e d))
 
 beq→eq : (s t : Bool) → T (beq s t) → s ≡ t
 beq→eq true true h = refl
@@ -53,7 +53,7 @@ beq→eq true false h = absurd h
 beq→eq false true h = absurd h
 beq→eq false false h = refl
 
-exp→eq : (e d : ℤ) → T (same-exp e d) → e ≡ d
+exp→eq : (e d : ℤ) → T (same_exp e d) → e ≡ d
 exp→eq (pos a) (pos b) h = ap pos (eqb→eq a b h)
 exp→eq (pos a) (negsuc b) h = absurd h
 exp→eq (negsuc a) (pos b) h = absurd h
@@ -69,10 +69,10 @@ same→eq (inf s) (fin t n d) h = absurd h
 same→eq (fin s m e) nan h = absurd h
 same→eq (fin s m e) (inf t) h = absurd h
 same→eq (fin s m e) (fin t n d) h =
-    let a : s ≡ t = beq→eq s t (both_left (beq s t) (both (eqb m n) (same-exp e d)) h) in
-    let r : T (both (eqb m n) (same-exp e d)) = both_right (beq s t) (both (eqb m n) (same-exp e d)) h in
-    let b : m ≡ n = eqb→eq m n (both_left (eqb m n) (same-exp e d) r) in
-    let c : e ≡ d = exp→eq e d (both_right (eqb m n) (same-exp e d) r) in
+    let a : s ≡ t = beq→eq s t (both_left (beq s t) (both (eqb m n) (same_exp e d)) h) in
+    let r : T (both (eqb m n) (same_exp e d)) = both_right (beq s t) (both (eqb m n) (same_exp e d)) h in
+    let b : m ≡ n = eqb→eq m n (both_left (eqb m n) (same_exp e d) r) in
+    let c : e ≡ d = exp→eq e d (both_right (eqb m n) (same_exp e d) r) in
     cc
 
 -- ---- a table of floats that grows at each step grows

@@ -4,8 +4,8 @@ use Rattle.std.proofs.Common.{◌≡◌, ℕ, Bool, true, false, not, ◌||◌, 
 pub so : {b : Bool} → b ≡ true → T b
 so e = subst T (sym e) tt
 
-pub so-not : {b : Bool} → b ≡ false → T (not b)
-so-not e = subst (λ (t : Bool). T (not t)) (sym e) tt
+pub so_not : {b : Bool} → b ≡ false → T (not b)
+so_not e = subst (λ (t : Bool). T (not t)) (sym e) tt
 
 pub clash : {b : Bool} {A : Type 0} → b ≡ true → b ≡ false → A
 clash p q = absurd (true≢false (sym p ∙ q))
@@ -25,17 +25,17 @@ iff true false f g = absurd (f tt)
 iff false true f g = absurd (g tt)
 iff false false f g = refl
 
-pub or-i : (p q : Bool) → T p ⊎ T q → T (p || q)
-or-i true q h = tt
-or-i false q h = ⊎_elim (λ a. absurd a) (λ a. a) h
+pub or_i : (p q : Bool) → T p ⊎ T q → T (p || q)
+or_i true q h = tt
+or_i false q h = ⊎_elim (λ a. absurd a) (λ a. a) h
 
-pub or-e : (p q : Bool) → T (p || q) → T p ⊎ T q
-or-e true q h = inl tt
-or-e false q h = inr h
+pub or_e : (p q : Bool) → T (p || q) → T p ⊎ T q
+or_e true q h = inl tt
+or_e false q h = inr h
 
-pub not-i : (p : Bool) → (T p → ⊥) → T (not p)
-not-i true f = f tt
-not-i false f = tt
+pub not_i : (p : Bool) → (T p → ⊥) → T (not p)
+not_i true f = f tt
+not_i false f = tt
 
-pub leb-not-ltb : (a b : ℕ) → not (ltb b a) ≡ leb a b
-leb-not-ltb a b = iff _ _ (λ h. le→leb a b (nltb→le b a h)) (λ h. so-not (le-ltb b a (leb→le a b h)))
+pub leb_not_ltb : (a b : ℕ) → not (ltb b a) ≡ leb a b
+leb_not_ltb a b = iff _ _ (λ h. le→leb a b (nltb→le b a h)) (λ h. so_not (le-ltb b a (leb→le a b h)))

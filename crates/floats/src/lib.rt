@@ -2,7 +2,7 @@
 ghost use Rattle.std.specs.Prelude.{◌≡◌, ◌≤◌, true, if◌then◌else◌};
 ghost use Rattle.std.specs.Float.Ieee.{le, lt, to_unsigned};
 ghost use Rattle.floats.specs.Arithmetic.{f0, f2^23, whole};
-ghost use Rattle.floats.specs.Helpers.{absOf, minOf, max_of, laneMin, laneMax, clampOf, entryClamp, truncOf, byte_of, byteUpTo7};
+ghost use Rattle.floats.specs.Helpers.{abs_of, min_of, max_of, lane_min, lane_max, clamp_of, entry_clamp, trunc_of, byte_of, byte_up_to7};
 
 // The Rust's (f32, f32).
 #[derive(Drop)]
@@ -17,13 +17,13 @@ pub fn pick(t: bool, a: f32, b: f32) -> f32
 
 // The larger of x and 0 - x, which is +0 for both zeros.
 pub fn abs(x: f32) -> f32
-    ensures { result ≡ absOf x }
+    ensures { result ≡ abs_of x }
 {
     lane_max(x, 0.0 - x)
 }
 
 pub fn min(a: f32, b: f32) -> f32
-    ensures { result ≡ minOf a b }
+    ensures { result ≡ min_of a b }
 {
     pick((b < a) | (a != a), b, a)
 }
@@ -35,26 +35,26 @@ pub fn max(a: f32, b: f32) -> f32
 }
 
 pub fn lane_min(a: f32, b: f32) -> f32
-    ensures { result ≡ laneMin a b }
+    ensures { result ≡ lane_min a b }
 {
     pick(a < b, a, b)
 }
 
 pub fn lane_max(a: f32, b: f32) -> f32
-    ensures { result ≡ laneMax a b }
+    ensures { result ≡ lane_max a b }
 {
     pick(a > b, a, b)
 }
 
 // f32::clamp(0.0, 1.0).
 pub fn clamp(x: f32) -> f32
-    ensures { result ≡ clampOf x }
+    ensures { result ≡ clamp_of x }
 {
     pick(x < 0.0, 0.0, pick(x > 1.0, 1.0, x))
 }
 
 pub fn entry_clamp(x: f32) -> f32
-    ensures { result ≡ entryClamp x }
+    ensures { result ≡ entry_clamp x }
 {
     lane_min(lane_max(x, 0.0), 1.0)
 }
@@ -70,7 +70,7 @@ fn whole_part(y: f32) -> f32
 
 // From 2^23 on every f32 is whole, and so is a zero, which keeps its sign.
 pub fn trunc(x: f32) -> f32
-    ensures { result ≡ truncOf x }
+    ensures { result ≡ trunc_of x }
 {
     let cut = pick(x < 0.0, -whole_part(-x), whole_part(x));
     pick((x != 0.0) & (-8388608.0 < x) & (x < 8388608.0), cut, x)
@@ -98,14 +98,14 @@ pub fn one_if(t: bool) -> u32
 
 // `(x as u8).min(7)` as an f32.
 pub fn up_to_7(x: f32) -> f32
-    ensures { result ≡ whole (byteUpTo7 x) }
+    ensures { result ≡ whole (byte_up_to7 x) }
 {
     whole_part(lane_min(lane_max(x, 0.0), 7.0))
 }
 
 // By way of i32: x86-64 casts four floats to signed integers at once, to unsigned ones not.
 pub fn byte_up_to_7(x: f32) -> u32
-    ensures { result ≡ byteUpTo7 x }
+    ensures { result ≡ byte_up_to7 x }
 {
     let k = up_to_7(x) as i32;
     k as u32

@@ -10,6 +10,6 @@ abbrev pub set_at : ℕ → ℕ → ℕ → ℕ
 set_at d i v = d + v * 2 ^ (3 * i)
 
 -- the number after pixels 0 to n - 1 were set, in order, to what f gives for each
-unfoldable pub filledTo : (ℕ → ℕ) → ℕ → ℕ
-filledTo f zero = 0
-filledTo f (suc n) = set_at (filledTo f n) n (f n)
+unfoldable pub filled_to : (ℕ → ℕ) → ℕ → ℕ
+filled_to f zero = 0
+filled_to f (suc n) = set_at (filled_to f n) n (f n)

@@ -18,9 +18,9 @@ abbrev pub bytes_of : ℕ → List ℕ
 bytes_of n = byte_at n 0 ∷ byte_at n 1 ∷ byte_at n 2 ∷ byte_at n 3 ∷ byte_at n 4 ∷ byte_at n 5 ∷ byte_at n 6 ∷ byte_at n 7 ∷ []
 
 -- the number of bytes in order
-unfoldable pub fromBytes : List ℕ → ℕ
-fromBytes [] = 0
-fromBytes (b ∷ bs) = b + 2 ^ 8 * fromBytes bs
+unfoldable pub from_bytes : List ℕ → ℕ
+from_bytes [] = 0
+from_bytes (b ∷ bs) = b + 2 ^ 8 * from_bytes bs
 
 -- every element is a byte
 abbrev pub AllBytes : List ℕ → Type 0

@@ -1,7 +1,7 @@
 // bc4.rs: IndexList, and how a block's eight bytes hold it.
 ghost use Rattle.std.specs.Prelude.{◌≡◌, ◌<◌, length};
-ghost use Rattle.index_list.specs.Indexes.{index_at, set_at, filledTo};
-ghost use Rattle.index_list.specs.Layout.{packed as packedOf, bytes_of, fromBytes};
+ghost use Rattle.index_list.specs.Indexes.{index_at, set_at, filled_to};
+ghost use Rattle.index_list.specs.Layout.{packed as packed_of, bytes_of, from_bytes};
 
 // Sixteen 3-bit indexes, pixel i at bit 3i.
 #[derive(Drop)]
@@ -22,7 +22,7 @@ impl IndexList {
     // Callers hand on an index that a palette's `closest` answered, and those are below 8.
     pub fn new_all(value: u8) -> Self
         requires { value < 8 }
-        ensures { result.data ≡ filledTo (λ i. value) 16 }
+        ensures { result.data ≡ filled_to (λ i. value) 16 }
     {
         Self {
             data: (value as u64) * Self::ONES,
@@ -52,7 +52,7 @@ impl IndexList {
 // The eight bytes of a block as one number, byte 0 lowest. Bits of the list from 48 up are dropped, as by the Rust, which
 // takes six of its eight bytes.
 pub fn packed(c0: u8, c1: u8, indexes: IndexList) -> u64
-    ensures { result ≡ packedOf c0 c1 indexes.data }
+    ensures { result ≡ packed_of c0 c1 indexes.data }
 {
     (c0 as u64) + ((c1 as u64) << 8) + ((indexes.data % 0x1_0000_0000_0000) << 16)
 }
@@ -82,7 +82,7 @@ fn wide(x: u8) -> u64
 // The number of eight bytes in order.
 pub fn from_bytes(b: &[u8]) -> u64
     requires { length b.now ≡ 8 }
-    ensures { result ≡ fromBytes b.now }
+    ensures { result ≡ from_bytes b.now }
 {
     let low = wide(b[0]) + 256 * (wide(b[1]) + 256 * (wide(b[2]) + 256 * wide(b[3])));
     let high = wide(b[4]) + 256 * (wide(b[5]) + 256 * (wide(b[6]) + 256 * wide(b[7])));

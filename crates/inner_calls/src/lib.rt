@@ -2,13 +2,13 @@
 // Results of several numbers go through references: a returned struct would follow the x86-64 calling convention even where the
 // module is compiled for another machine. What an inner function requires is tested first, and the answer is a fixed one where it fails.
 ghost use Rattle.std.specs.Prelude.{◌%◌, ◌≡◌, true, false, get_or};
-ghost use Rattle.floats.specs.Helpers.{absOf, minOf, max_of, laneMin, laneMax, clampOf, entryClamp, truncOf, byte_of, byteUpTo7};
-ghost use Rattle.values.specs.Values.{value_of, normOf, signed_of};
-ghost use Rattle.index_list.specs.Indexes.{filledTo};
-ghost use Rattle.block.specs.Samples.{perPixel};
+ghost use Rattle.floats.specs.Helpers.{abs_of, min_of, max_of, lane_min, lane_max, clamp_of, entry_clamp, trunc_of, byte_of, byte_up_to7};
+ghost use Rattle.values.specs.Values.{value_of, norm_of, signed_of};
+ghost use Rattle.index_list.specs.Indexes.{filled_to};
+ghost use Rattle.block.specs.Samples.{per_pixel};
 ghost use Rattle.block.specs.Block.{entered, mean};
 ghost use Rattle.palette.specs.declared.Kind.TheVariants.{Six, Four};
-ghost use Rattle.palette.specs.PaletteError.{paletteError};
+ghost use Rattle.palette.specs.PaletteError.{palette_error};
 ghost use Rattle.compress.specs.Sorted.{placed};
 ghost use Rattle.compress.specs.Network.{InOrder};
 
@@ -23,14 +23,14 @@ use palette::{Closest, Indexed, Kind};
 
 #[unsafe(no_mangle)]
 pub extern "C" fn inner_abs(x: f32) -> f32
-    ensures { result ≡ absOf x }
+    ensures { result ≡ abs_of x }
 {
     floats::abs(x)
 }
 
 #[unsafe(no_mangle)]
 pub extern "C" fn inner_min(a: f32, b: f32) -> f32
-    ensures { result ≡ minOf a b }
+    ensures { result ≡ min_of a b }
 {
     floats::min(a, b)
 }
@@ -44,35 +44,35 @@ pub extern "C" fn inner_max(a: f32, b: f32) -> f32
 
 #[unsafe(no_mangle)]
 pub extern "C" fn inner_lane_min(a: f32, b: f32) -> f32
-    ensures { result ≡ laneMin a b }
+    ensures { result ≡ lane_min a b }
 {
     floats::lane_min(a, b)
 }
 
 #[unsafe(no_mangle)]
 pub extern "C" fn inner_lane_max(a: f32, b: f32) -> f32
-    ensures { result ≡ laneMax a b }
+    ensures { result ≡ lane_max a b }
 {
     floats::lane_max(a, b)
 }
 
 #[unsafe(no_mangle)]
 pub extern "C" fn inner_clamp(x: f32) -> f32
-    ensures { result ≡ clampOf x }
+    ensures { result ≡ clamp_of x }
 {
     floats::clamp(x)
 }
 
 #[unsafe(no_mangle)]
 pub extern "C" fn inner_entry_clamp(x: f32) -> f32
-    ensures { result ≡ entryClamp x }
+    ensures { result ≡ entry_clamp x }
 {
     floats::entry_clamp(x)
 }
 
 #[unsafe(no_mangle)]
 pub extern "C" fn inner_trunc(x: f32) -> f32
-    ensures { result ≡ truncOf x }
+    ensures { result ≡ trunc_of x }
 {
     floats::trunc(x)
 }
@@ -86,7 +86,7 @@ pub extern "C" fn inner_byte_of(x: f32) -> u8
 
 #[unsafe(no_mangle)]
 pub extern "C" fn inner_byte_up_to_7(x: f32) -> u32
-    ensures { result ≡ byteUpTo7 x }
+    ensures { result ≡ byte_up_to7 x }
 {
     floats::byte_up_to_7(x) as u32
 }
@@ -100,7 +100,7 @@ pub extern "C" fn inner_n8_f32(x: u8) -> f32
 
 #[unsafe(no_mangle)]
 pub extern "C" fn inner_norm(x: u8) -> u8
-    ensures { result ≡ normOf x }
+    ensures { result ≡ norm_of x }
 {
     values::s8::norm(x)
 }
@@ -212,7 +212,7 @@ pub extern "C" fn inner_get(indexes: u64, index: usize) -> u8 {
 // All sixteen set in order, each to its number % 8.
 #[unsafe(no_mangle)]
 pub extern "C" fn inner_set(indexes: &[u8; 16]) -> u64
-    ensures { result ≡ filledTo (λ k. get_or indexes.now k 0 % 8) 16 }
+    ensures { result ≡ filled_to (λ k. get_or indexes.now k 0 % 8) 16 }
 {
     let mut list = IndexList::new_empty();
     for i in 0..16usize {
@@ -263,7 +263,7 @@ pub extern "C" fn inner_sorted(b: &[f32; 16], out: &mut [f32; 16])
 // All sixteen, where the encoder asks for four at most.
 #[unsafe(no_mangle)]
 pub extern "C" fn inner_places(b: &[f32; 16], out: &mut [f32; 16])
-    ensures { out.new ≡ perPixel (placed b.now) }
+    ensures { out.new ≡ per_pixel (placed b.now) }
 {
     let s = compress::network::sorted(b);
     let mut places = [1.0f32; 16];
@@ -277,14 +277,14 @@ pub extern "C" fn inner_places(b: &[f32; 16], out: &mut [f32; 16])
 
 #[unsafe(no_mangle)]
 pub extern "C" fn inner_palette_error6(b: &[f32; 16], c0: f32, c1: f32) -> f32
-    ensures { result ≡ paletteError Six b.now c0 c1 }
+    ensures { result ≡ palette_error Six b.now c0 c1 }
 {
     palette::palette_error(Kind::Six, b, c0, c1)
 }
 
 #[unsafe(no_mangle)]
 pub extern "C" fn inner_palette_error4(b: &[f32; 16], c0: f32, c1: f32) -> f32
-    ensures { result ≡ paletteError Four b.now c0 c1 }
+    ensures { result ≡ palette_error Four b.now c0 c1 }
 {
     palette::palette_error(Kind::Four, b, c0, c1)
 }

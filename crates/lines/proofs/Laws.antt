@@ -10,8 +10,8 @@ use borrow.Rule.Slice.PartMut.{put_mid}
 use Rattle.bc4.specs.declared.Encoded.{Encoded}
 use Rattle.bc4.specs.declared.Encoded.TheVariants.{Block, Refused}
 use Rattle.lines.specs.declared.output.Line.{Line}
-use Rattle.lines.specs.Output.{hexLine, refusedLine, Holds}
-use Rattle.lines.specs.Answers.{answer_of, line_of, recordAt, linesTo, AtStart}
+use Rattle.lines.specs.Output.{hex_line, refused_line, Holds}
+use Rattle.lines.specs.Answers.{answer_of, line_of, record_at, lines_to, AtStart}
 
 -- What the output is once `new` was copied over its bytes from `at` on,
 pub copied : (after new : List ℕ) (at : ℕ) → at + length new ≤ length after
@@ -23,10 +23,10 @@ copied after new at room =
     (sym (append_assoc (take at after) new (drop (at + length new) after)))
 
 -- and after a text that stood there before it: the longer text.
-pub written-more : {text before after : List ℕ} {at : ℕ} (new : List ℕ) → AtStart text before after at → at + length new ≤ length after
+pub written_more : {text before after : List ℕ} {at : ℕ} (new : List ℕ) → AtStart text before after at → at + length new ≤ length after
     → let out = (take at after ++ new) ++ drop (at + length new) after in
     AtStart (text ++ new) before out (at + length new) × (length out ≡ length after)
-written-more {text} {before} {after} {at} new w room =
+written_more {text} {before} {after} {at} new w room =
     let first = take at after ++ new in
     let long : length first ≡ at + length new = simp (length-append, length-take) (omega arith) in
     let same : length (first ++ drop (at + length new) after) ≡ length after = simp (length-append, length-take, length-drop) (omega arith) in (
@@ -39,25 +39,25 @@ written-more {text} {before} {after} {at} new w room =
     )
 
 -- the bytes of a line
-pub line-bytes : {l : Line} {text : List ℕ} → Holds l text → length (take l.length l.bytes) ≡ l.length
-line-bytes {l} h = length-take-le l.length l.bytes (omega arith)
+pub line_bytes : {l : Line} {text : List ℕ} → Holds l text → length (take l.length l.bytes) ≡ l.length
+line_bytes {l} h = length-take-le l.length l.bytes (omega arith)
 
-written-length : {text before after : List ℕ} {n : ℕ} → AtStart text before after n → length text ≡ n
-written-length {text} {before} {after} {n} w = ap length (sym w.start) ∙ length-take n after ∙ min-eq_left w.within
+written_length : {text before after : List ℕ} {n : ℕ} → AtStart text before after n → length text ≡ n
+written_length {text} {before} {after} {n} w = ap length (sym w.start) ∙ length-take n after ∙ min-eq_left w.within
 
-line-length : (a : Encoded) → length (line_of a) ≤ 17
-unfolding line_of hexLine refusedLine
-line-length (Block b) = omega arith
-line-length (Refused q) = omega arith
+line_length : (a : Encoded) → length (line_of a) ≤ 17
+unfolding line_of hex_line refused_line
+line_length (Block b) = omega arith
+line_length (Refused q) = omega arith
 
-lines-length : (input : List ℕ) (n : ℕ) → length (linesTo input n) ≤ n * 17
-unfolding linesTo
-lines-length input zero = omega arith
-lines-length input (suc n) =
-    let one = line-length (answer_of (recordAt input n)) in
-    let rest = lines-length input n in
-    rw (length-append (linesTo input n) (line_of (answer_of (recordAt input n)))) (omega arith)
+lines_length : (input : List ℕ) (n : ℕ) → length (lines_to input n) ≤ n * 17
+unfolding lines_to
+lines_length input zero = omega arith
+lines_length input (suc n) =
+    let one = line_length (answer_of (record_at input n)) in
+    let rest = lines_length input n in
+    rw (length-append (lines_to input n) (line_of (answer_of (record_at input n)))) (omega arith)
 
 -- the bytes that the lines of n records take
-pub lines-room : {before after : List ℕ} {at : ℕ} (input : List ℕ) (n : ℕ) → AtStart (linesTo input n) before after at → at ≤ n * 17
-lines-room {before} {after} {at} input n w = rw (← written-length w) (lines-length input n)
+pub lines_room : {before after : List ℕ} {at : ℕ} (input : List ℕ) (n : ℕ) → AtStart (lines_to input n) before after at → at ≤ n * 17
+lines_room {before} {after} {at} input n w = rw (← written_length w) (lines_length input n)

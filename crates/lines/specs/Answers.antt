@@ -3,29 +3,29 @@ use Rattle.std.specs.Prelude.{◌≡◌, List, [], ◌++◌, cond, ℕ, zero, su
 use Rattle.bc4.specs.declared.Encoded.{Encoded}
 use Rattle.bc4.specs.declared.Encoded.TheVariants.{Block, Refused}
 use Rattle.refusal.specs.Refusals.{number_of}
-use Rattle.bc4.specs.Word.{encodeByWord}
-use Rattle.lines.specs.Input.{recordWord, samplesOf}
-use Rattle.lines.specs.Output.{hexLine, refusedLine, shortLine}
+use Rattle.bc4.specs.Word.{encode_by_word}
+use Rattle.lines.specs.Input.{record_word, samples_of}
+use Rattle.lines.specs.Output.{hex_line, refused_line, short_line}
 
 abbrev pub answer_of : List ℕ → Encoded
-answer_of bytes = encodeByWord (samplesOf bytes) (recordWord bytes)
+answer_of bytes = encode_by_word (samples_of bytes) (record_word bytes)
 
 unfoldable pub line_of : Encoded → List ℕ
-line_of (Block b) = hexLine b
-line_of (Refused q) = refusedLine (number_of q)
+line_of (Block b) = hex_line b
+line_of (Refused q) = refused_line (number_of q)
 
 -- record i of the input
-abbrev pub recordAt : List ℕ → ℕ → List ℕ
-recordAt input i = take 68 (drop (i * 68) input)
+abbrev pub record_at : List ℕ → ℕ → List ℕ
+record_at input i = take 68 (drop (i * 68) input)
 
 -- the lines of the first n records
-unfoldable pub linesTo : List ℕ → ℕ → List ℕ
-linesTo input zero = []
-linesTo input (suc n) = linesTo input n ++ line_of (answer_of (recordAt input n))
+unfoldable pub lines_to : List ℕ → ℕ → List ℕ
+lines_to input zero = []
+lines_to input (suc n) = lines_to input n ++ line_of (answer_of (record_at input n))
 
 -- all lines of an input: where a partial record is left, `short` follows them
 unfoldable pub text_of : List ℕ → List ℕ
-text_of input = linesTo input (length input / 68) ++ cond (eqb (length input % 68) 0) [] shortLine
+text_of input = lines_to input (length input / 68) ++ cond (eqb (length input % 68) 0) [] short_line
 
 -- A text of n bytes stands at the start, and the bytes after it are as before.
 pub record AtStart (text before after : List ℕ) (n : ℕ) : Type 0 where

@@ -2,14 +2,14 @@
 ghost use Rattle.std.specs.Prelude.{◌≡◌, ◌<◌, length};
 ghost use Rattle.std.specs.Float.{binary32};
 ghost use Rattle.std.specs.Float.Ieee.{of_bits};
-ghost use Rattle.lines.specs.Input.{recordWord, patternAt, samplesOf};
+ghost use Rattle.lines.specs.Input.{record_word, pattern_at, samples_of};
 
 use bc4::word::Word;
 
 // The first four bytes.
 pub fn read_word(bytes: &[u8]) -> Word
     requires { length bytes.now ≡ 68 }
-    ensures { result ≡ recordWord bytes.now }
+    ensures { result ≡ record_word bytes.now }
 {
     bc4::word::read(bytes[0], bytes[1], bytes[2], bytes[3])
 }
@@ -17,7 +17,7 @@ pub fn read_word(bytes: &[u8]) -> Word
 // The bits of sample i.
 fn pattern(bytes: &[u8], i: usize) -> u32
     requires { (length bytes.now ≡ 68) × (i < 16) }
-    ensures { result ≡ patternAt bytes.now i }
+    ensures { result ≡ pattern_at bytes.now i }
 {
     fields::read_u32(bytes, 4 + 4 * i)
 }
@@ -34,7 +34,7 @@ fn float_of(n: u32) -> f32
 
 pub fn samples(bytes: &[u8]) -> [f32; 16]
     requires { length bytes.now ≡ 68 }
-    ensures { result ≡ samplesOf bytes.now }
+    ensures { result ≡ samples_of bytes.now }
 {
     let mut b = [0.0f32; 16];
     for i in 0..16usize {

@@ -1,6 +1,6 @@
 // Document 01, "The program": a line for each record of 68 bytes.
 ghost use Rattle.std.specs.Prelude.{◌≡◌, ◌+◌, ◌*◌, ◌/◌, ◌≤◌, length};
-ghost use Rattle.lines.specs.Answers.{answer_of, line_of, linesTo, text_of, AtStart};
+ghost use Rattle.lines.specs.Answers.{answer_of, line_of, lines_to, text_of, AtStart};
 ghost use Rattle.lines.specs.Output.{Holds};
 
 mod input;
@@ -32,7 +32,7 @@ fn line(bytes: &[u8]) -> Line
 // The lines of all whole records of `input`, at the start of `out`: how many bytes they take. Later bytes stay.
 fn lines(input: &[u8], out: &mut [u8]) -> usize
     requires { length input.now / 68 * 17 ≤ length out.old }
-    ensures { AtStart (linesTo input.now (length input.now / 68)) out.old out.new result }
+    ensures { AtStart (lines_to input.now (length input.now / 68)) out.old out.new result }
 {
     let mut at = 0;
     for i in 0..input.len() / 68 {

@@ -1,6 +1,6 @@
 // Document 01, "The program": the line that answers a record.
 ghost use Rattle.std.specs.Prelude.{◌≡◌, ◌/◌, ◌%◌, ◌<◌};
-ghost use Rattle.lines.specs.Output.{digit, hexLine, refusedLine, Holds};
+ghost use Rattle.lines.specs.Output.{digit, hex_line, refused_line, Holds};
 
 const DIGITS: [u8; 16] = *b"0123456789abcdef";
 
@@ -23,7 +23,7 @@ fn digits(byte: u8) -> TwoDigits
 }
 
 pub fn hex(block: u64) -> Line
-    ensures { Holds result (hexLine block) }
+    ensures { Holds result (hex_line block) }
 {
     let b = index_list::bytes(block);
     let d0 = digits(b[0]);
@@ -46,7 +46,7 @@ pub fn hex(block: u64) -> Line
 // The number of a refusal that has one digit.
 pub fn refused(number: u8) -> Line
     requires { number < 10 }
-    ensures { Holds result (refusedLine number) }
+    ensures { Holds result (refused_line number) }
 {
     Line {
         bytes: [

@@ -10,88 +10,88 @@ use lib.Ieee.{Float, binary32, lt, le, neg, add, sub, mul, of_bits, of_int}
 use lib.Ieee.Bits.{is_true}
 use lib.Ieee.Fits.{add-fits}
 use Rattle.floats.specs.Arithmetic.{◌⊕◌, ◌⊖◌, ◌⊗◌, squared, whole, f0, half, f1}
-use Rattle.floats.specs.Helpers.{absOf, byte_of}
-use Rattle.floats.proofs.WholePart.{trunc-capped}
-use Rattle.floats.proofs.Squares.{square-abs}
-use Rattle.block.specs.Samples.{pixelAt, tabulate, perPixel}
-use Rattle.block.specs.Orders.{sumOfSquares}
-use Rattle.index_list.specs.Indexes.{filledTo}
+use Rattle.floats.specs.Helpers.{abs_of, byte_of}
+use Rattle.floats.proofs.WholePart.{trunc_capped}
+use Rattle.floats.proofs.Squares.{square_abs}
+use Rattle.block.specs.Samples.{pixel_at, tabulate, per_pixel}
+use Rattle.block.specs.Orders.{sum_of_squares}
+use Rattle.index_list.specs.Indexes.{filled_to}
 use Rattle.index_list.specs.declared.IndexList.{IndexList}
 use Rattle.palette.specs.declared.Indexed.{Indexed}
 use Rattle.palette.specs.declared.inter4.Nearest.{Nearest}
 use Rattle.palette.specs.declared.inter6.Inter6Palette.{Inter6Palette}
-use Rattle.palette.specs.Palettes.{entry, indexMap, blended}
-use Rattle.palette.specs.Closest.{blend, blend7, weight, closest6, defaultOf, nearerOf, nearestTo, closest4}
-use Rattle.palette.specs.Rows.{index6, off6, rowCode, rowSum, ofRow, cutWeight}
+use Rattle.palette.specs.Palettes.{entry, index_map, blended}
+use Rattle.palette.specs.Closest.{blend, blend7, weight, closest6, default_of, nearer_of, nearest_to, closest4}
+use Rattle.palette.specs.Rows.{index6, off6, row_code, row_sum, of_row, cut_weight}
 
 -- ---- four values
 -- a choice between two records, field by field as the code makes it
-pub nearest-fields : (t : Bool) (k : ℕ) (e : Float) (n : Nearest) → record { index = cond t k n.index; error = cond t e n.error } ≡ cond t (record { index = k; error = e }) n
-nearest-fields true k e n = refl
-nearest-fields false k e n = refl
+pub nearest_fields : (t : Bool) (k : ℕ) (e : Float) (n : Nearest) → record { index = cond t k n.index; error = cond t e n.error } ≡ cond t (record { index = k; error = e }) n
+nearest_fields true k e n = refl
+nearest_fields false k e n = refl
 
-default_lt : (x : Float) → (defaultOf x).index < 8
-unfolding defaultOf
+default_lt : (x : Float) → (default_of x).index < 8
+unfolding default_of
 default_lt x = go (le half x)
   where
     go : (t : Bool) → cond t 7 6 < 8
     go true = omega arith
     go false = omega arith
 
-nearer-lt : (n : Nearest) (k : ℕ) (color x : Float) → n.index < 8 → k < 8 → (nearerOf n k color x).index < 8
-unfolding nearerOf
-nearer-lt n k color x h l = go (lt (absOf (x ⊖ color)) n.error)
+nearer_lt : (n : Nearest) (k : ℕ) (color x : Float) → n.index < 8 → k < 8 → (nearer_of n k color x).index < 8
+unfolding nearer_of
+nearer_lt n k color x h l = go (lt (abs_of (x ⊖ color)) n.error)
   where
-    go : (t : Bool) → (cond t (record { index = k; error = absOf (x ⊖ color) }) n).index < 8
+    go : (t : Bool) → (cond t (record { index = k; error = abs_of (x ⊖ color) }) n).index < 8
     go true = l
     go false = h
 
-nearest-lt : (c : List Float) (x : Float) (k : ℕ) → k ≤ 8 → (nearestTo c x k).index < 8
-unfolding nearestTo
-nearest-lt c x zero h = default_lt x
-nearest-lt c x (suc k) h = nearer-lt (nearestTo c x k) k (entry c k) x (nearest-lt c x k (omega arith)) (omega arith)
+nearest_lt : (c : List Float) (x : Float) (k : ℕ) → k ≤ 8 → (nearest_to c x k).index < 8
+unfolding nearest_to
+nearest_lt c x zero h = default_lt x
+nearest_lt c x (suc k) h = nearer_lt (nearest_to c x k) k (entry c k) x (nearest_lt c x k (omega arith)) (omega arith)
 
-pub nearest6-lt : (c : List Float) (x : Float) → (nearestTo c x 6).index < 8
-nearest6-lt c x = nearest-lt c x 6 (omega arith)
+pub nearest6_lt : (c : List Float) (x : Float) → (nearest_to c x 6).index < 8
+nearest6_lt c x = nearest_lt c x 6 (omega arith)
 
-pub closest4-lt : (c : List Float) (x : Float) → (closest4 c x).index < 8
+pub closest4_lt : (c : List Float) (x : Float) → (closest4 c x).index < 8
 unfolding closest4
-closest4-lt c x = nearest6-lt c x
+closest4_lt c x = nearest6_lt c x
 
 -- ---- six values
-pub map-lt : (k : ℕ) → k ≤ 7 → get_or indexMap k 0 < 8
-map-lt zero h = omega arith
-map-lt (suc zero) h = omega arith
-map-lt (suc (suc zero)) h = omega arith
-map-lt (suc (suc (suc zero))) h = omega arith
-map-lt (suc (suc (suc (suc zero)))) h = omega arith
-map-lt (suc (suc (suc (suc (suc zero))))) h = omega arith
-map-lt (suc (suc (suc (suc (suc (suc zero)))))) h = omega arith
-map-lt (suc (suc (suc (suc (suc (suc (suc zero))))))) h = omega arith
-map-lt (suc (suc (suc (suc (suc (suc (suc (suc k)))))))) h = absurd (omega arith)
+pub map_lt : (k : ℕ) → k ≤ 7 → get_or index_map k 0 < 8
+map_lt zero h = omega arith
+map_lt (suc zero) h = omega arith
+map_lt (suc (suc zero)) h = omega arith
+map_lt (suc (suc (suc zero))) h = omega arith
+map_lt (suc (suc (suc (suc zero)))) h = omega arith
+map_lt (suc (suc (suc (suc (suc zero))))) h = omega arith
+map_lt (suc (suc (suc (suc (suc (suc zero)))))) h = omega arith
+map_lt (suc (suc (suc (suc (suc (suc (suc zero))))))) h = omega arith
+map_lt (suc (suc (suc (suc (suc (suc (suc (suc k)))))))) h = absurd (omega arith)
 
-pub blend7-le : (p : Inter6Palette) (x : Float) → blend7 p x ≤ 7
-blend7-le p x = capped (byte_of (blend p x))
+pub blend7_le : (p : Inter6Palette) (x : Float) → blend7 p x ≤ 7
+blend7_le p x = capped (byte_of (blend p x))
   where
     capped : (n : ℕ) → min n 7 ≤ 7
     capped n = omega arith
 
-pub closest6-lt : (p : Inter6Palette) (x : Float) → (closest6 p x).index < 8
+pub closest6_lt : (p : Inter6Palette) (x : Float) → (closest6 p x).index < 8
 unfolding closest6
-closest6-lt p x = map-lt (blend7 p x) (blend7-le p x)
+closest6_lt p x = map_lt (blend7 p x) (blend7_le p x)
 
 -- ---- the value is the palette's at that index
-pub closest4-value : (c : List Float) (x : Float) → (closest4 c x).value ≡ entry c (closest4 c x).index
+pub closest4_value : (c : List Float) (x : Float) → (closest4 c x).value ≡ entry c (closest4 c x).index
 unfolding closest4
-closest4-value c x = refl
+closest4_value c x = refl
 
 -- how many sevenths towards c0 an index stands for: INDEX_MAP turned round
-abbrev pub seventhsOf : ℕ → ℕ
-seventhsOf zero = 7
-seventhsOf (suc zero) = 0
-seventhsOf (suc (suc k)) = 6 - k
+abbrev pub sevenths_of : ℕ → ℕ
+sevenths_of zero = 7
+sevenths_of (suc zero) = 0
+sevenths_of (suc (suc k)) = 6 - k
 
-map_back : (k : ℕ) → k ≤ 7 → seventhsOf (get_or indexMap k 0) ≡ k
+map_back : (k : ℕ) → k ≤ 7 → sevenths_of (get_or index_map k 0) ≡ k
 map_back zero h = refl
 map_back (suc zero) h = refl
 map_back (suc (suc zero)) h = refl
@@ -102,55 +102,55 @@ map_back (suc (suc (suc (suc (suc (suc zero)))))) h = refl
 map_back (suc (suc (suc (suc (suc (suc (suc zero))))))) h = refl
 map_back (suc (suc (suc (suc (suc (suc (suc (suc k)))))))) h = absurd (omega arith)
 
-pub closest6-value : (p : Inter6Palette) (x : Float) → (closest6 p x).value ≡ blended p (seventhsOf (closest6 p x).index)
+pub closest6_value : (p : Inter6Palette) (x : Float) → (closest6 p x).value ≡ blended p (sevenths_of (closest6 p x).index)
 unfolding closest6
-closest6-value p x = rw (map_back (blend7 p x) (blend7-le p x))
+closest6_value p x = rw (map_back (blend7 p x) (blend7_le p x))
 
 -- at index 0 it is 7·factor2 + c1, not c0
-pub closest6-at-0 : (p : Inter6Palette) (x : Float) → (closest6 p x).index ≡ 0 → (closest6 p x).value ≡ whole 7 ⊗ p.factor2 ⊕ p.c1
+pub closest6_at_0 : (p : Inter6Palette) (x : Float) → (closest6 p x).index ≡ 0 → (closest6 p x).value ≡ whole 7 ⊗ p.factor2 ⊕ p.c1
 unfolding blended
-closest6-at-0 p x e = closest6-value p x ∙ rw e
+closest6_at_0 p x e = closest6_value p x ∙ rw e
 
 -- its error squared, with the sign or without
-pub closest6-squared : (p : Inter6Palette) (x : Float) → squared (closest6 p x).error ≡ squared (x ⊖ (closest6 p x).value)
+pub closest6_squared : (p : Inter6Palette) (x : Float) → squared (closest6 p x).error ≡ squared (x ⊖ (closest6 p x).value)
 unfolding closest6
-closest6-squared p x = square-abs (x ⊖ blended p (blend7 p x))
+closest6_squared p x = square_abs (x ⊖ blended p (blend7 p x))
 
 -- ---- the weight, where the blend is above -1
-pub weight-above : (p : Inter6Palette) (x : Float) → lt (neg f1) (blend p x) ≡ true → cutWeight (blend p x) ≡ weight p x
+pub weight_above : (p : Inter6Palette) (x : Float) → lt (neg f1) (blend p x) ≡ true → cut_weight (blend p x) ≡ weight p x
 unfolding weight
-weight-above p x h =
+weight_above p x h =
     ⊎_elim
     (λ t. rw t refl)
     (λ t. rw (t.0, t.1) (unfold sub mul add neg of_bits of_int in refl))
-    (trunc-capped (blend p x) (is_true _ (add-fits binary32 (x ⊗ p.factor1) p.add1)) h)
+    (trunc_capped (blend p x) (is_true _ (add-fits binary32 (x ⊗ p.factor1) p.add1)) h)
 
 -- ---- a whole block
 abbrev indexed : ℕ → Float → Indexed
 indexed d total = record { indexes = record { «data» = d }; error = total }
 
 -- ---- the same by rows
-pub row_lt : (p : Inter6Palette) (x y z w : Float) → rowCode p x y z w < 4096
-unfolding rowCode
+pub row_lt : (p : Inter6Palette) (x y z w : Float) → row_code p x y z w < 4096
+unfolding row_code
 row_lt p x y z w =
-    let small : (v : Float) → index6 p v < 8 = λ v. map-lt (blend7 p v) (blend7-le p v) in
+    let small : (v : Float) → index6 p v < 8 = λ v. map_lt (blend7 p v) (blend7_le p v) in
     omega (arith, small x, small y, small z, small w)
 
-pub rows_code : (p : Inter6Palette) (b : List Float) → let row = ofRow (rowCode p) b in
-    row 0 + 4096 * row 1 + 16777216 * row 2 + 68719476736 * row 3 ≡ filledTo (λ i. index6 p (pixelAt b i)) 16
-unfolding rowCode filledTo
+pub rows_code : (p : Inter6Palette) (b : List Float) → let row = of_row (row_code p) b in
+    row 0 + 4096 * row 1 + 16777216 * row 2 + 68719476736 * row 3 ≡ filled_to (λ i. index6 p (pixel_at b i)) 16
+unfolding row_code filled_to
 rows_code p b = omega arith
 
-pub rows-sum : (p : Inter6Palette) (b : List Float) → let row = ofRow (rowSum p) b in
-    f0 ⊕ row 0 ⊕ row 1 ⊕ row 2 ⊕ row 3 ≡ sumOfSquares (perPixel (λ i. off6 p (pixelAt b i)))
-unfolding rowSum tabulate
-rows-sum p b = refl
+pub rows_sum : (p : Inter6Palette) (b : List Float) → let row = of_row (row_sum p) b in
+    f0 ⊕ row 0 ⊕ row 1 ⊕ row 2 ⊕ row 3 ≡ sum_of_squares (per_pixel (λ i. off6 p (pixel_at b i)))
+unfolding row_sum tabulate
+rows_sum p b = refl
 
 -- a square does not show the sign of an error
-pub sum-abs : (g : ℕ → Float) → sumOfSquares (perPixel g) ≡ sumOfSquares (perPixel (λ i. absOf (g i)))
+pub sum_abs : (g : ℕ → Float) → sum_of_squares (per_pixel g) ≡ sum_of_squares (per_pixel (λ i. abs_of (g i)))
 unfolding tabulate
-sum-abs g = simp square-abs
+sum_abs g = simp square_abs
 
-pub indexed-is : (list : IndexList) (error : Float) (d : ℕ) (total : Float) → list.«data» ≡ d → error ≡ total
+pub indexed_is : (list : IndexList) (error : Float) (d : ℕ) (total : Float) → list.«data» ≡ d → error ≡ total
     → indexed list.«data» error ≡ indexed d total
-indexed-is list error d total p q = ap₂ (λ (n : ℕ) (t : Float). indexed n t) p q
+indexed_is list error d total p q = ap₂ (λ (n : ℕ) (t : Float). indexed n t) p q

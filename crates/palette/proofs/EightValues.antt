@@ -6,14 +6,14 @@ use native.Mathlib.Omega.{arith}
 use lib.Dec.{T}
 use lib.Ieee.{Float, binary32, le, fits, of_bits, of_int, div}
 use Rattle.floats.specs.Arithmetic.{◌⊖◌, ◌⊘◌, whole, f1}
-use Rattle.floats.specs.Helpers.{laneMin}
+use Rattle.floats.specs.Helpers.{lane_min}
 use Rattle.floats.proofs.Squares.{Plain}
-use Rattle.floats.proofs.Distances.{distance-0, distance-1}
+use Rattle.floats.proofs.Distances.{distance_0, distance_1}
 use Rattle.palette.specs.declared.Kind.{Kind}
 use Rattle.palette.specs.declared.Kind.TheVariants.{Six, Four}
-use Rattle.palette.specs.Palettes.{entry, inter6Palette, towards, colors, values6, values4, values_of}
-use Rattle.palette.specs.PaletteError.{leastTo}
-use Rattle.palette.specs.ByKind.{paletteOf, valuesIn}
+use Rattle.palette.specs.Palettes.{entry, inter6_palette, towards, colors, values6, values4, values_of}
+use Rattle.palette.specs.PaletteError.{least_to}
+use Rattle.palette.specs.ByKind.{palette_of, values_in}
 
 -- ---- by index
 -- where the error function looks at the value of index k
@@ -31,44 +31,44 @@ place Four (suc (suc (suc (suc (suc (suc zero)))))) = 0
 place Four (suc (suc (suc (suc (suc (suc (suc k))))))) = 1
 
 -- four values: the palette's own entry
-pub value4-at : (c0 c1 : Float) (k : ℕ) → k < 8 → entry (values_of Four c0 c1) (place Four k) ≡ entry (colors c0 c1) k
+pub value4_at : (c0 c1 : Float) (k : ℕ) → k < 8 → entry (values_of Four c0 c1) (place Four k) ≡ entry (colors c0 c1) k
 unfolding values_of values4 colors
-value4-at c0 c1 zero h = refl
-value4-at c0 c1 (suc zero) h = refl
-value4-at c0 c1 (suc (suc zero)) h = refl
-value4-at c0 c1 (suc (suc (suc zero))) h = refl
-value4-at c0 c1 (suc (suc (suc (suc zero)))) h = refl
-value4-at c0 c1 (suc (suc (suc (suc (suc zero))))) h = refl
-value4-at c0 c1 (suc (suc (suc (suc (suc (suc zero)))))) h = refl
-value4-at c0 c1 (suc (suc (suc (suc (suc (suc (suc zero))))))) h = refl
-value4-at c0 c1 (suc (suc (suc (suc (suc (suc (suc (suc k)))))))) h = absurd (omega arith)
+value4_at c0 c1 zero h = refl
+value4_at c0 c1 (suc zero) h = refl
+value4_at c0 c1 (suc (suc zero)) h = refl
+value4_at c0 c1 (suc (suc (suc zero))) h = refl
+value4_at c0 c1 (suc (suc (suc (suc zero)))) h = refl
+value4_at c0 c1 (suc (suc (suc (suc (suc zero))))) h = refl
+value4_at c0 c1 (suc (suc (suc (suc (suc (suc zero)))))) h = refl
+value4_at c0 c1 (suc (suc (suc (suc (suc (suc (suc zero))))))) h = refl
+value4_at c0 c1 (suc (suc (suc (suc (suc (suc (suc (suc k)))))))) h = absurd (omega arith)
 
 -- six values: c0, c1 by way of the whole step, and k - 1 sevenths from c0 towards c1
-pub value6-at-0 : (c0 c1 : Float) → entry (values_of Six c0 c1) (place Six 0) ≡ c0
+pub value6_at_0 : (c0 c1 : Float) → entry (values_of Six c0 c1) (place Six 0) ≡ c0
 unfolding values_of values6
-value6-at-0 c0 c1 = refl
+value6_at_0 c0 c1 = refl
 
-pub value6-at-1 : (c0 c1 : Float) → entry (values_of Six c0 c1) (place Six 1) ≡ towards c0 c1 f1
+pub value6_at_1 : (c0 c1 : Float) → entry (values_of Six c0 c1) (place Six 1) ≡ towards c0 c1 f1
 unfolding values_of values6
-value6-at-1 c0 c1 = refl
+value6_at_1 c0 c1 = refl
 
-pub value6-at : (c0 c1 : Float) (k : ℕ) → k < 6 → entry (values_of Six c0 c1) (place Six (suc (suc k))) ≡ towards c0 c1 (whole (suc k) ⊘ whole 7)
+pub value6_at : (c0 c1 : Float) (k : ℕ) → k < 6 → entry (values_of Six c0 c1) (place Six (suc (suc k))) ≡ towards c0 c1 (whole (suc k) ⊘ whole 7)
 unfolding values_of values6 of_bits of_int div
-value6-at c0 c1 zero h = refl
-value6-at c0 c1 (suc zero) h = refl
-value6-at c0 c1 (suc (suc zero)) h = refl
-value6-at c0 c1 (suc (suc (suc zero))) h = refl
-value6-at c0 c1 (suc (suc (suc (suc zero)))) h = refl
-value6-at c0 c1 (suc (suc (suc (suc (suc zero))))) h = refl
-value6-at c0 c1 (suc (suc (suc (suc (suc (suc k)))))) h = absurd (omega arith)
+value6_at c0 c1 zero h = refl
+value6_at c0 c1 (suc zero) h = refl
+value6_at c0 c1 (suc (suc zero)) h = refl
+value6_at c0 c1 (suc (suc (suc zero))) h = refl
+value6_at c0 c1 (suc (suc (suc (suc zero)))) h = refl
+value6_at c0 c1 (suc (suc (suc (suc (suc zero))))) h = refl
+value6_at c0 c1 (suc (suc (suc (suc (suc (suc k)))))) h = absurd (omega arith)
 
 -- ---- For four values the Rust starts with `p.min(1.0 - p)`: of a sample in 0..1 these are the distances from 0 and from 1.
-pub default-distances : (c0 c1 p : Float) → T (fits binary32 p) → Plain p → le p f1 ≡ true → leastTo (values_of Four c0 c1) p 1 ≡ laneMin p (f1 ⊖ p)
-unfolding leastTo values_of values4
-default-distances c0 c1 p f s h = ap₂ laneMin (distance-0 p f s h) (distance-1 p s h)
+pub default_distances : (c0 c1 p : Float) → T (fits binary32 p) → Plain p → le p f1 ≡ true → least_to (values_of Four c0 c1) p 1 ≡ lane_min p (f1 ⊖ p)
+unfolding least_to values_of values4
+default_distances c0 c1 p f s h = ap₂ lane_min (distance_0 p f s h) (distance_1 p s h)
 
 -- ---- a palette as one value has its kind's values
-pub values-in : (kind : Kind) (c0 c1 : Float) → valuesIn (paletteOf kind c0 c1) ≡ values_of kind c0 c1
-unfolding valuesIn paletteOf values_of inter6Palette
-values-in Six c0 c1 = refl
-values-in Four c0 c1 = refl
+pub values_in_lem : (kind : Kind) (c0 c1 : Float) → values_in (palette_of kind c0 c1) ≡ values_of kind c0 c1
+unfolding values_in palette_of values_of inter6_palette
+values_in_lem Six c0 c1 = refl
+values_in_lem Four c0 c1 = refl

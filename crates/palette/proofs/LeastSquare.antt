@@ -5,30 +5,30 @@ use mathlib.Core.List.{List}
 use Prim.Native.Nat.{ℕ, zero, suc}
 use lib.Ieee.{Float, lt}
 use Rattle.floats.specs.Arithmetic.{◌⊖◌, squared}
-use Rattle.floats.specs.Helpers.{laneMin}
-use Rattle.floats.proofs.Squares.{Plain, abs-plain, square-abs, square-min}
+use Rattle.floats.specs.Helpers.{lane_min}
+use Rattle.floats.proofs.Squares.{Plain, abs_plain, square_abs, square_min}
 use Rattle.palette.specs.Palettes.{entry}
-use Rattle.palette.specs.PaletteError.{distance, leastTo, nearerSquare, leastSquareTo, miss}
+use Rattle.palette.specs.PaletteError.{distance, least_to, nearer_square, least_square_to, miss}
 
-min-plain : (x y : Float) → Plain x → Plain y → Plain (laneMin x y)
-min-plain x y p q = go (lt x y)
+min_plain : (x y : Float) → Plain x → Plain y → Plain (lane_min x y)
+min_plain x y p q = go (lt x y)
   where
     go : (t : Bool) → Plain (cond t x y)
     go true = p
     go false = q
 
-least-plain : (v : List Float) (p : Float) (k : ℕ) → Plain (leastTo v p k)
-unfolding leastTo
-least-plain v p zero = abs-plain (entry v 0 ⊖ p)
-least-plain v p (suc k) = min-plain (leastTo v p k) (distance v p (suc k)) (least-plain v p k) (abs-plain (entry v (suc k) ⊖ p))
+least_plain : (v : List Float) (p : Float) (k : ℕ) → Plain (least_to v p k)
+unfolding least_to
+least_plain v p zero = abs_plain (entry v 0 ⊖ p)
+least_plain v p (suc k) = min_plain (least_to v p k) (distance v p (suc k)) (least_plain v p k) (abs_plain (entry v (suc k) ⊖ p))
 
-least-square : (v : List Float) (p : Float) (k : ℕ) → squared (leastTo v p k) ≡ leastSquareTo v p k
-unfolding leastTo leastSquareTo nearerSquare
-least-square v p zero = square-abs (entry v 0 ⊖ p)
-least-square v p (suc k) =
-    square-min (leastTo v p k) (distance v p (suc k)) (least-plain v p k) (abs-plain (entry v (suc k) ⊖ p))
-    ∙ rw (least-square v p k, square-abs (entry v (suc k) ⊖ p))
+least_square : (v : List Float) (p : Float) (k : ℕ) → squared (least_to v p k) ≡ least_square_to v p k
+unfolding least_to least_square_to nearer_square
+least_square v p zero = square_abs (entry v 0 ⊖ p)
+least_square v p (suc k) =
+    square_min (least_to v p k) (distance v p (suc k)) (least_plain v p k) (abs_plain (entry v (suc k) ⊖ p))
+    ∙ rw (least_square v p k, square_abs (entry v (suc k) ⊖ p))
 
-pub miss-is : (v : List Float) (p : Float) → miss v p ≡ leastSquareTo v p 7
+pub miss_is : (v : List Float) (p : Float) → miss v p ≡ least_square_to v p 7
 unfolding miss
-miss-is v p = least-square v p 7
+miss_is v p = least_square v p 7

@@ -30,14 +30,14 @@ abbrev pub fifth4 : Float
 fifth4 = bits 0x3f4c_cccd
 
 -- ---- six values: a record of five, prepared for `closest`
-unfoldable pub inter6Palette : Float → Float → Inter6Palette
-inter6Palette c0 c1 =
+unfoldable pub inter6_palette : Float → Float → Inter6Palette
+inter6_palette c0 c1 =
     let factor1 = f7 ⊘ (c0 ⊖ c1) in
     record { c0 = c0; c1 = c1; factor1 = factor1; factor2 = seventh ⊗ (c0 ⊖ c1); add1 = half ⊖ c1 ⊗ factor1 }
 
 -- INDEX_MAP: from the number of sevenths towards c0 to the index
-abbrev pub indexMap : List ℕ
-indexMap = 1 ∷ 7 ∷ 6 ∷ 5 ∷ 4 ∷ 3 ∷ 2 ∷ 0 ∷ []
+abbrev pub index_map : List ℕ
+index_map = 1 ∷ 7 ∷ 6 ∷ 5 ∷ 4 ∷ 3 ∷ 2 ∷ 0 ∷ []
 
 -- the value k sevenths from c1 towards c0, as `closest` works it out
 unfoldable pub blended : Inter6Palette → ℕ → Float

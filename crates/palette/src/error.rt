@@ -1,10 +1,10 @@
 // One error function for both palettes, over their eight values.
 ghost use Rattle.std.specs.Prelude.{◌≡◌};
 ghost use Rattle.floats.specs.Arithmetic.{◌⊖◌, squared};
-ghost use Rattle.block.specs.Samples.{pixelAt, perPixel};
-ghost use Rattle.block.specs.Orders.{sumInOrder};
-ghost use Rattle.palette.specs.PaletteError.{nearerSquare, miss as missOf};
-ghost use Rattle.palette.specs.Rows.{firstRowSum};
+ghost use Rattle.block.specs.Samples.{pixel_at, per_pixel};
+ghost use Rattle.block.specs.Orders.{sum_in_order};
+ghost use Rattle.palette.specs.PaletteError.{nearer_square, miss as miss_of};
+ghost use Rattle.palette.specs.Rows.{first_row_sum};
 
 fn squared_distance(value: f32, pixel: f32) -> f32
     ensures { result ≡ squared (value ⊖ pixel) }
@@ -13,14 +13,14 @@ fn squared_distance(value: f32, pixel: f32) -> f32
 }
 
 fn nearer(least: f32, value: f32, pixel: f32) -> f32
-    ensures { result ≡ nearerSquare least value pixel }
+    ensures { result ≡ nearer_square least value pixel }
 {
     floats::lane_min(least, squared_distance(value, pixel))
 }
 
 // The least square instead of the square of the least distance: no absolute values, and the same float.
 fn miss(eight: [f32; 8], pixel: f32) -> f32
-    ensures { result ≡ missOf eight pixel }
+    ensures { result ≡ miss_of eight pixel }
 {
     let e0 = squared_distance(eight[0], pixel);
     let e1 = nearer(e0, eight[1], pixel);
@@ -33,7 +33,7 @@ fn miss(eight: [f32; 8], pixel: f32) -> f32
 }
 
 pub fn sum(eight: [f32; 8], b: &[f32; 16]) -> f32
-    ensures { result ≡ sumInOrder (perPixel (λ i. missOf eight (pixelAt b.now i))) }
+    ensures { result ≡ sum_in_order (per_pixel (λ i. miss_of eight (pixel_at b.now i))) }
 {
     let mut misses = [0.0f32; 16];
     for i in 0..16usize {
@@ -44,7 +44,7 @@ pub fn sum(eight: [f32; 8], b: &[f32; 16]) -> f32
 
 // What the first row adds.
 pub fn first_row_sum(eight: [f32; 8], b: &[f32; 16]) -> f32
-    ensures { result ≡ firstRowSum eight b.now }
+    ensures { result ≡ first_row_sum eight b.now }
 {
     miss(eight, b[0]) + miss(eight, b[1]) + miss(eight, b[2]) + miss(eight, b[3])
 }

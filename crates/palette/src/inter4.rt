@@ -1,7 +1,7 @@
 // Inter4Palette.
 ghost use Rattle.std.specs.Prelude.{◌≡◌, cond, ◌<◌};
-ghost use Rattle.palette.specs.Palettes.{entry, colors as colorsOf, values4};
-ghost use Rattle.palette.specs.Closest.{defaultOf, nearerOf, nearestTo, closest4, blockClosest};
+ghost use Rattle.palette.specs.Palettes.{entry, colors as colors_of, values4};
+ghost use Rattle.palette.specs.Closest.{default_of, nearer_of, nearest_to, closest4, block_closest};
 
 use crate::{Closest, Indexed};
 use end_points::EndPoints;
@@ -27,7 +27,7 @@ fn pick_index(t: bool, a: u32, b: u32) -> u32
 impl Nearest {
     // This handles the case where pixel is 0 or 1.
     fn default(pixel: f32) -> Self
-        ensures { result ≡ defaultOf pixel }
+        ensures { result ≡ default_of pixel }
     {
         Self {
             index: pick_index(pixel >= 0.5, 7, 6),
@@ -36,7 +36,7 @@ impl Nearest {
     }
 
     fn or(self, k: u32, color: f32, pixel: f32) -> Self
-        ensures { result ≡ nearerOf self k color pixel }
+        ensures { result ≡ nearer_of self k color pixel }
     {
         let error = floats::abs(pixel - color);
         let nearer = error < self.error;
@@ -49,7 +49,7 @@ impl Nearest {
 
 impl Inter4Palette {
     pub fn new(c0: f32, c1: f32) -> Self
-        ensures { result.colors ≡ colorsOf c0 c1 }
+        ensures { result.colors ≡ colors_of c0 c1 }
     {
         Self {
             colors: [
@@ -66,13 +66,13 @@ impl Inter4Palette {
     }
 
     pub fn from_endpoints(e: EndPoints) -> Self
-        ensures { result.colors ≡ colorsOf e.c0_f e.c1_f }
+        ensures { result.colors ≡ colors_of e.c0_f e.c1_f }
     {
         Self::new(e.c0_f, e.c1_f)
     }
 
     fn nearest(self, pixel: f32) -> Nearest
-        ensures { result ≡ nearestTo self.colors pixel 6 }
+        ensures { result ≡ nearest_to self.colors pixel 6 }
     {
         let c = self.colors;
         Nearest::default(pixel)
@@ -99,7 +99,7 @@ impl Inter4Palette {
     }
 
     pub fn block_closest(self, b: &[f32; 16]) -> Indexed
-        ensures { result ≡ blockClosest (closest4 self.colors) b.now }
+        ensures { result ≡ block_closest (closest4 self.colors) b.now }
     {
         let mut chosen = [0u32; 16];
         let mut errors = [0.0f32; 16];

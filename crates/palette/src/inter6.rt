@@ -1,8 +1,8 @@
 // Inter6Palette.
 ghost use Rattle.std.specs.Prelude.{◌≡◌, ◌≤◌, ◌<◌, get_or};
-ghost use Rattle.palette.specs.Palettes.{inter6Palette, indexMap, blended as blendedOf, values6};
-ghost use Rattle.palette.specs.Closest.{blend as blend_of, blend7 as blend7Of, closest6, weight, weights, blockClosest};
-ghost use Rattle.palette.specs.Rows.{index6, off6, rowCode, rowSum, ofRow, cutWeight};
+ghost use Rattle.palette.specs.Palettes.{inter6_palette, index_map, blended as blended_of, values6};
+ghost use Rattle.palette.specs.Closest.{blend as blend_of, blend7 as blend7_of, closest6, weight, weights, block_closest};
+ghost use Rattle.palette.specs.Rows.{index6, off6, row_code, row_sum, of_row, cut_weight};
 
 use crate::{Closest, Indexed};
 use end_points::EndPoints;
@@ -22,7 +22,7 @@ const F6: f32 = 6.0 / 7.0;
 
 // The weight of a blend above -1, by the cut of `closest`.
 pub fn cut_weight(blend: f32) -> f32
-    ensures { result ≡ cutWeight blend }
+    ensures { result ≡ cut_weight blend }
 {
     1.0 - floats::up_to_7(blend) * F1
 }
@@ -30,7 +30,7 @@ pub fn cut_weight(blend: f32) -> f32
 // INDEX_MAP by arithmetic, which a loop does for four pixels at once.
 fn index_of(k: u32) -> u32
     requires { k ≤ 7 }
-    ensures { result ≡ get_or indexMap k 0 }
+    ensures { result ≡ get_or index_map k 0 }
 {
     let m = (8 - k) % 8;
     m + floats::one_if(m == 0) - floats::one_if(m == 1)
@@ -63,7 +63,7 @@ impl Inter6Palette {
     pub const INDEX_MAP: [u8; 8] = [1, 7, 6, 5, 4, 3, 2, 0];
 
     pub fn new(c0: f32, c1: f32) -> Self
-        ensures { result ≡ inter6Palette c0 c1 }
+        ensures { result ≡ inter6_palette c0 c1 }
     {
         let factor1 = 7.0 / (c0 - c1);
         let factor2 = F1 * (c0 - c1);
@@ -78,7 +78,7 @@ impl Inter6Palette {
     }
 
     pub fn from_endpoints(e: EndPoints) -> Self
-        ensures { result ≡ inter6Palette e.c0_f e.c1_f }
+        ensures { result ≡ inter6_palette e.c0_f e.c1_f }
     {
         Self::new(e.c0_f, e.c1_f)
     }
@@ -110,7 +110,7 @@ impl Inter6Palette {
     }
 
     fn blend7(self, pixel: f32) -> u32
-        ensures { (result ≡ blend7Of self pixel) × (result ≤ 7) }
+        ensures { (result ≡ blend7_of self pixel) × (result ≤ 7) }
     {
         floats::byte_up_to_7(self.blend(pixel))
     }
@@ -118,21 +118,21 @@ impl Inter6Palette {
     // k counts sevenths: 8 less the index that a decoder reads.
     pub fn blended(self, k: u32) -> f32
         requires { k ≤ 7 }
-        ensures { result ≡ blendedOf self k }
+        ensures { result ≡ blended_of self k }
     {
         (k as f32) * self.factor2 + self.c1
     }
 
     // The value of a blend7, with no way over the integer.
     fn value(self, pixel: f32) -> f32
-        ensures { result ≡ blendedOf self (blend7Of self pixel) }
+        ensures { result ≡ blended_of self (blend7_of self pixel) }
     {
         floats::up_to_7(self.blend(pixel)) * self.factor2 + self.c1
     }
 
     // `map` is INDEX_MAP: a constant array that is read in a loop would be built anew at each turn.
     pub fn closest(self, map: &[u8; 8], pixel: f32) -> Closest
-        requires { map.now ≡ indexMap }
+        requires { map.now ≡ index_map }
         ensures { result ≡ closest6 self pixel }
     {
         let k = self.blend7(pixel);
@@ -173,7 +173,7 @@ impl Inter6Palette {
     }
 
     fn four(self, x: f32, y: f32, z: f32, w: f32) -> Row
-        ensures { (result.code ≡ rowCode self x y z w) × (result.code < 4096) × (result.sum ≡ rowSum self x y z w) }
+        ensures { (result.code ≡ row_code self x y z w) × (result.code < 4096) × (result.sum ≡ row_sum self x y z w) }
     {
         let mx = self.matched(x);
         let my = self.matched(y);
@@ -187,14 +187,14 @@ impl Inter6Palette {
 
     fn row(self, b: &[f32; 16], i: usize) -> Row
         requires { i < 4 }
-        ensures { (result.code ≡ ofRow (rowCode self) b.now i) × (result.code < 4096) × (result.sum ≡ ofRow (rowSum self) b.now i) }
+        ensures { (result.code ≡ of_row (row_code self) b.now i) × (result.code < 4096) × (result.sum ≡ of_row (row_sum self) b.now i) }
     {
         self.four(b[4 * i], b[4 * i + 1], b[4 * i + 2], b[4 * i + 3])
     }
 
     // Row by row, as the squares are summed: four rows at once need no exchange of lanes.
     pub fn block_closest(self, b: &[f32; 16]) -> Indexed
-        ensures { result ≡ blockClosest (closest6 self) b.now }
+        ensures { result ≡ block_closest (closest6 self) b.now }
     {
         let mut codes = [0u32; 4];
         let mut sums = [0.0f32; 4];

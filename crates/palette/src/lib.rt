@@ -1,11 +1,11 @@
 // bc4.rs: the two palettes.
 ghost use Rattle.std.specs.Prelude.{◌≡◌, ℕ, ◌+◌, ◌*◌, ◌<◌, get_or};
-ghost use Rattle.index_list.specs.Indexes.{filledTo};
-ghost use Rattle.block.specs.Samples.{pixelAt, perPixel};
-ghost use Rattle.block.specs.Orders.{sumInOrder};
-ghost use Rattle.palette.specs.PaletteError.{miss, paletteError};
-ghost use Rattle.palette.specs.Rows.{firstRowSum, firstRowError};
-ghost use Rattle.palette.specs.ByKind.{paletteOf, valuesIn};
+ghost use Rattle.index_list.specs.Indexes.{filled_to};
+ghost use Rattle.block.specs.Samples.{pixel_at, per_pixel};
+ghost use Rattle.block.specs.Orders.{sum_in_order};
+ghost use Rattle.palette.specs.PaletteError.{miss, palette_error};
+ghost use Rattle.palette.specs.Rows.{first_row_sum, first_row_error};
+ghost use Rattle.palette.specs.ByKind.{palette_of, values_in};
 
 pub mod error;
 pub mod inter4;
@@ -87,7 +87,7 @@ fn row_code(k: &[u32; 16], i: usize) -> u32
 
 fn indexes(k: &[u32; 16]) -> IndexList
     requires { (i : ℕ) → i < 16 → get_or k.now i 0 < 8 }
-    ensures { result.data ≡ filledTo (λ i. get_or k.now i 0) 16 }
+    ensures { result.data ≡ filled_to (λ i. get_or k.now i 0) 16 }
 {
     of_rows(
         row_code(k, 0),
@@ -106,7 +106,7 @@ pub enum Palette {
 
 impl Palette {
     pub fn new(kind: Kind, c0: f32, c1: f32) -> Self
-        ensures { result ≡ paletteOf kind c0 c1 }
+        ensures { result ≡ palette_of kind c0 c1 }
     {
         match kind {
             Kind::Six => Palette::Inter6(Inter6Palette::new(c0, c1)),
@@ -116,7 +116,7 @@ impl Palette {
 
     // The eight that the error looks at, in its order.
     fn values(self) -> [f32; 8]
-        ensures { result ≡ valuesIn self }
+        ensures { result ≡ values_in self }
     {
         match self {
             Palette::Inter6(p) => p.error_values(),
@@ -126,14 +126,14 @@ impl Palette {
 
     // The sum stands behind the choice: with one for each palette the compiler no longer lays the eight values out four at a time.
     pub fn block_closest_error_sq(self, b: &[f32; 16]) -> f32
-        ensures { result ≡ sumInOrder (perPixel (λ i. miss (valuesIn self) (pixelAt b.now i))) }
+        ensures { result ≡ sum_in_order (per_pixel (λ i. miss (values_in self) (pixel_at b.now i))) }
     {
         error::sum(self.values(), b)
     }
 
     // A floor of it: what the first row adds.
     fn first_row_error_sq(self, b: &[f32; 16]) -> f32
-        ensures { result ≡ firstRowSum (valuesIn self) b.now }
+        ensures { result ≡ first_row_sum (values_in self) b.now }
     {
         error::first_row_sum(self.values(), b)
     }
@@ -141,13 +141,13 @@ impl Palette {
 
 // What the Rust's closure over `P` works out for two ends.
 pub fn palette_error(kind: Kind, b: &[f32; 16], c0: f32, c1: f32) -> f32
-    ensures { result ≡ paletteError kind b.now c0 c1 }
+    ensures { result ≡ palette_error kind b.now c0 c1 }
 {
     Palette::new(kind, c0, c1).block_closest_error_sq(b)
 }
 
 pub fn first_row_error(kind: Kind, b: &[f32; 16], c0: f32, c1: f32) -> f32
-    ensures { result ≡ firstRowError kind b.now c0 c1 }
+    ensures { result ≡ first_row_error kind b.now c0 c1 }
 {
     Palette::new(kind, c0, c1).first_row_error_sq(b)
 }

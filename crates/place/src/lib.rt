@@ -1,6 +1,6 @@
 // Document 01, "Calls and numbers": the sizes that a tile may have, and where a block's bytes and samples are in it.
 ghost use Rattle.std.specs.Prelude.{◌≡◌, ◌+◌, ◌*◌, ◌<◌, ◌≤◌, length};
-ghost use Rattle.place.specs.Place.{longestSide, badSide, badSize, along, encodedLength, blockAt, block_of};
+ghost use Rattle.place.specs.Place.{longest_side, bad_side, bad_size, along, encoded_length, block_at, block_of};
 
 pub const LONGEST_SIDE: usize = 1024;
 
@@ -11,29 +11,29 @@ pub const BC4_SIZE: usize = 8;
 pub const BC5_SIZE: usize = 16;
 
 fn bad_side(n: usize) -> bool
-    ensures { result ≡ badSide n }
+    ensures { result ≡ bad_side n }
 {
     (n == 0) | (LONGEST_SIDE < n) | (n % 4 != 0)
 }
 
 pub fn bad_size(width: usize, height: usize) -> bool
-    ensures { result ≡ badSize width height }
+    ensures { result ≡ bad_size width height }
 {
     bad_side(width) | bad_side(height)
 }
 
 // The bytes of all blocks. `size` is the bytes of one, here and below.
 pub fn encoded_length(size: usize, width: usize, height: usize) -> usize
-    requires { (width * height ≤ longestSide * longestSide) × (width * height * size ≤ 16 * longestSide * longestSide) }
-    ensures { result ≡ encodedLength size width height }
+    requires { (width * height ≤ longest_side * longest_side) × (width * height * size ≤ 16 * longest_side * longest_side) }
+    ensures { result ≡ encoded_length size width height }
 {
     width * height * size / 16
 }
 
 // Where a block's bytes start.
 pub fn block_at(size: usize, width: usize, column: usize, row: usize) -> usize
-    requires { (row * along width + column ≤ longestSide * longestSide) × (blockAt size width column row ≤ 16 * longestSide * longestSide) }
-    ensures { result ≡ blockAt size width column row }
+    requires { (row * along width + column ≤ longest_side * longest_side) × (block_at size width column row ≤ 16 * longest_side * longest_side) }
+    ensures { result ≡ block_at size width column row }
 {
     size * (row * (width / 4) + column)
 }

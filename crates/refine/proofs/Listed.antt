@@ -6,15 +6,15 @@ use lib.Ieee.{Float}
 use Rattle.floats.specs.declared.Pair.{Pair}
 use Rattle.palette.specs.declared.Kind.{Kind}
 use Rattle.refine.specs.declared.rounds.Held.{Held}
-use Rattle.refine.specs.Rounds.{triedTo, round}
-use Rattle.refine.specs.Refining.{highTo}
-use Rattle.refine.specs.Candidates.{roundListed, highListed}
+use Rattle.refine.specs.Rounds.{tried_to, round}
+use Rattle.refine.specs.Refining.{high_to}
+use Rattle.refine.specs.Candidates.{round_listed, high_listed}
 
 module _ (kind : Kind) (b : List Float) where
-  pub round-listed : (start : Held) (step : Float) → round kind b start step ≡ roundListed kind b start step
-  unfolding triedTo
-  round-listed start step = refl
+  pub round_listed_lem : (start : Held) (step : Float) → round kind b start step ≡ round_listed kind b start step
+  unfolding tried_to
+  round_listed_lem start step = refl
 
-  pub high-listed : (snorm : Bool) (p : Pair) → highTo kind b snorm p 3 ≡ highListed kind b snorm p
-  unfolding highTo
-  high-listed snorm p = refl
+  pub high_listed_lem : (snorm : Bool) (p : Pair) → high_to kind b snorm p 3 ≡ high_listed kind b snorm p
+  unfolding high_to
+  high_listed_lem snorm p = refl

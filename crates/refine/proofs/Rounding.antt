@@ -7,46 +7,46 @@ use Prim.Native.Nat.{ℕ, zero, suc, ◌+◌}
 use native.Mathlib.Numerals.{add-one}
 use lib.Ieee.{Float, lt}
 use Rattle.floats.specs.declared.Pair.{Pair}
-use Rattle.floats.proofs.Order.{lt_irrefl, lt-asym}
+use Rattle.floats.proofs.Order.{lt_irrefl, lt_asym}
 use Rattle.palette.specs.declared.Kind.{Kind}
-use Rattle.palette.specs.PaletteError.{paletteError}
+use Rattle.palette.specs.PaletteError.{palette_error}
 use Rattle.refine.specs.declared.rounds.Held.{Held}
 use Rattle.options.specs.declared.Quantization.TheVariants.{MediumQuality, HighQuality}
 use Rattle.refine.specs.Rounds.{held}
-use Rattle.refine.specs.Refining.{quantizedPair, heldPair, betterPair, otherPair, medium, closerPair, highTo, pair_of, quantizing}
-use Rattle.refine.proofs.Limits.{Better, better-trans, better-better, better-honest, held-honest, Honest}
+use Rattle.refine.specs.Refining.{quantized_pair, held_pair, better_pair, other_pair, medium, closer_pair, high_to, pair_of, quantizing}
+use Rattle.refine.proofs.Limits.{Better, better_trans, better_better, better_honest, held_honest, Honest}
 
 module _ (kind : Kind) (b : List Float) (snorm : Bool) (p : Pair) where
   -- one pair more
-  pub high-more : (i : ℕ) → highTo kind b snorm p (i + 1) ≡ betterPair kind b (highTo kind b snorm p i) (quantizedPair snorm (closerPair p (i + 1)))
-  unfolding highTo
-  high-more i = rw add-one
+  pub high_more : (i : ℕ) → high_to kind b snorm p (i + 1) ≡ better_pair kind b (high_to kind b snorm p i) (quantized_pair snorm (closer_pair p (i + 1)))
+  unfolding high_to
+  high_more i = rw add-one
 
-  high-better : (i : ℕ) → Better (heldPair kind b (quantizedPair snorm p)) (highTo kind b snorm p i)
-  unfolding highTo
-  high-better zero = inl refl
-  high-better (suc i) = better-trans (heldPair kind b (quantizedPair snorm p)) (highTo kind b snorm p i) _ (high-better i) (better-better kind b (highTo kind b snorm p i) _ _)
+  high_better : (i : ℕ) → Better (held_pair kind b (quantized_pair snorm p)) (high_to kind b snorm p i)
+  unfolding high_to
+  high_better zero = inl refl
+  high_better (suc i) = better_trans (held_pair kind b (quantized_pair snorm p)) (high_to kind b snorm p i) _ (high_better i) (better_better kind b (high_to kind b snorm p i) _ _)
 
-  high-honest : (i : ℕ) → Honest kind b (highTo kind b snorm p i)
-  unfolding highTo
-  high-honest zero = held-honest kind b _ _
-  high-honest (suc i) = better-honest kind b (highTo kind b snorm p i) _ _ (high-honest i)
+  high_honest : (i : ℕ) → Honest kind b (high_to kind b snorm p i)
+  unfolding high_to
+  high_honest zero = held_honest kind b _ _
+  high_honest (suc i) = better_honest kind b (high_to kind b snorm p i) _ _ (high_honest i)
 
-  abbrev errorOf : Pair → Float
-  errorOf q = paletteError kind b q.0 q.1
+  abbrev error_of : Pair → Float
+  error_of q = palette_error kind b q.0 q.1
 
   -- what is held honestly, and is plain rounding or strictly better, has no larger error
-  never-larger : (h : Held) → Honest kind b h → Better (heldPair kind b (quantizedPair snorm p)) h → lt (errorOf (quantizedPair snorm p)) (errorOf (pair_of h)) ≡ false
+  never_larger : (h : Held) → Honest kind b h → Better (held_pair kind b (quantized_pair snorm p)) h → lt (error_of (quantized_pair snorm p)) (error_of (pair_of h)) ≡ false
   unfolding held
-  never-larger h s (inl e) = rw e (lt_irrefl _)
-  never-larger h s (inr l) = rw (← s) (lt-asym h.error (errorOf (quantizedPair snorm p)) l)
+  never_larger h s (inl e) = rw e (lt_irrefl _)
+  never_larger h s (inr l) = rw (← s) (lt_asym h.error (error_of (quantized_pair snorm p)) l)
 
-  pub medium-no-larger : lt (errorOf (quantizedPair snorm p)) (errorOf (quantizing MediumQuality kind b snorm p)) ≡ false
+  pub medium_no_larger : lt (error_of (quantized_pair snorm p)) (error_of (quantizing MediumQuality kind b snorm p)) ≡ false
   unfolding quantizing medium
-  medium-no-larger =
-      never-larger (betterPair kind b (heldPair kind b (quantizedPair snorm p)) (quantizedPair snorm (otherPair p (quantizedPair snorm p))))
-      (better-honest kind b (heldPair kind b (quantizedPair snorm p)) _ _ (held-honest kind b _ _)) (better-better kind b (heldPair kind b (quantizedPair snorm p)) _ _)
+  medium_no_larger =
+      never_larger (better_pair kind b (held_pair kind b (quantized_pair snorm p)) (quantized_pair snorm (other_pair p (quantized_pair snorm p))))
+      (better_honest kind b (held_pair kind b (quantized_pair snorm p)) _ _ (held_honest kind b _ _)) (better_better kind b (held_pair kind b (quantized_pair snorm p)) _ _)
 
-  pub high-no-larger : lt (errorOf (quantizedPair snorm p)) (errorOf (quantizing HighQuality kind b snorm p)) ≡ false
+  pub high_no_larger : lt (error_of (quantized_pair snorm p)) (error_of (quantizing HighQuality kind b snorm p)) ≡ false
   unfolding quantizing
-  high-no-larger = never-larger (highTo kind b snorm p 3) (high-honest 3) (high-better 3)
+  high_no_larger = never_larger (high_to kind b snorm p 3) (high_honest 3) (high_better 3)

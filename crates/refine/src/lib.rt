@@ -1,6 +1,6 @@
 // bc4.rs: refine_endpoints, with its three roundings.
 ghost use Rattle.std.specs.Prelude.{◌≡◌};
-ghost use Rattle.refine.specs.Refining.{heldPair, betterPair, otherPair, medium as mediumOf, closerPair, highTo, quantizing as quantizingOf, firstStep, leastStep, refinedEnds};
+ghost use Rattle.refine.specs.Refining.{held_pair, better_pair, other_pair, medium as medium_of, closer_pair, high_to, quantizing as quantizing_of, first_step, least_step, refined_ends};
 
 pub mod rounds;
 
@@ -17,7 +17,7 @@ const FAST_LEAST: f32 = 1.0 / 255.0;
 const LEAST: f32 = 1.0 / 255.0 / 2.0;
 
 fn other(p: Pair, base: Pair) -> Pair
-    ensures { result ≡ otherPair p base }
+    ensures { result ≡ other_pair p base }
 {
     let min_diff = p.0 - base.0;
     let max_diff = p.1 - base.1;
@@ -34,19 +34,19 @@ fn other(p: Pair, base: Pair) -> Pair
 }
 
 fn hold(kind: Kind, b: &[f32; 16], p: Pair) -> Held
-    ensures { result ≡ heldPair kind b.now p }
+    ensures { result ≡ held_pair kind b.now p }
 {
     rounds::hold(kind, b, p.0, p.1)
 }
 
 fn better(kind: Kind, b: &[f32; 16], h: Held, p: Pair) -> Held
-    ensures { result ≡ betterPair kind b.now h p }
+    ensures { result ≡ better_pair kind b.now h p }
 {
     rounds::better(kind, b, h, p.0, p.1)
 }
 
 fn medium(kind: Kind, b: &[f32; 16], snorm: bool, p: Pair) -> Held
-    ensures { result ≡ mediumOf kind b.now snorm p }
+    ensures { result ≡ medium_of kind b.now snorm p }
 {
     let base = EndPoints::quantize(p.0, p.1, snorm);
     let next = other(p, base);
@@ -55,7 +55,7 @@ fn medium(kind: Kind, b: &[f32; 16], snorm: bool, p: Pair) -> Held
 }
 
 fn closer(p: Pair, i: usize) -> Pair
-    ensures { result ≡ closerPair p i }
+    ensures { result ≡ closer_pair p i }
 {
     Pair(
         floats::pick(i % 2 == 1, p.0 + QUANT_STEP, p.0),
@@ -64,7 +64,7 @@ fn closer(p: Pair, i: usize) -> Pair
 }
 
 fn high(kind: Kind, b: &[f32; 16], snorm: bool, p: Pair) -> Held
-    ensures { result ≡ highTo kind b.now snorm p 3 }
+    ensures { result ≡ high_to kind b.now snorm p 3 }
 {
     let base = EndPoints::quantize(p.0, p.1, snorm);
     let mut h = hold(kind, b, base);
@@ -77,7 +77,7 @@ fn high(kind: Kind, b: &[f32; 16], snorm: bool, p: Pair) -> Held
 }
 
 fn quantizing(quality: Quantization, kind: Kind, b: &[f32; 16], snorm: bool, p: Pair) -> Pair
-    ensures { result ≡ quantizingOf quality kind b.now snorm p }
+    ensures { result ≡ quantizing_of quality kind b.now snorm p }
 {
     match quality {
         Quantization::Round => p,
@@ -93,19 +93,19 @@ fn quantizing(quality: Quantization, kind: Kind, b: &[f32; 16], snorm: bool, p: 
 }
 
 fn first_step(fast: bool, min: f32, max: f32) -> f32
-    ensures { result ≡ firstStep fast min max }
+    ensures { result ≡ first_step fast min max }
 {
     floats::pick(fast, 0.1, 0.15) * (max - min)
 }
 
 fn least_step(fast: bool) -> f32
-    ensures { result ≡ leastStep fast }
+    ensures { result ≡ least_step fast }
 {
     floats::pick(fast, FAST_LEAST, LEAST)
 }
 
 pub fn refine_endpoints(kind: Kind, b: &[f32; 16], min: f32, max: f32, o: Options) -> Pair
-    ensures { result ≡ refinedEnds kind b.now (record { 0 = min; 1 = max }) o }
+    ensures { result ≡ refined_ends kind b.now (record { 0 = min; 1 = max }) o }
 {
     let least = least_step(o.fast_iter);
     let step = first_step(o.fast_iter, min, max);

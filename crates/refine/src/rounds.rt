@@ -1,6 +1,6 @@
 // bcn_util.rs: refine_endpoints with RefinementSteps for f32.
 ghost use Rattle.std.specs.Prelude.{◌≡◌, ◌<◌};
-ghost use Rattle.refine.specs.Rounds.{held, better as betterOf, moved as movedOf, deltaMin, deltaMax, tried as triedOf, round as roundOf, rounds as roundsOf, refined};
+ghost use Rattle.refine.specs.Rounds.{held, better as better_of, moved as moved_of, delta_min, delta_max, tried as tried_of, round as round_of, rounds as rounds_of, refined};
 
 use floats::Pair;
 use palette::Kind;
@@ -24,7 +24,7 @@ pub fn hold(kind: Kind, b: &[f32; 16], min: f32, max: f32) -> Held
 }
 
 pub fn better(kind: Kind, b: &[f32; 16], h: Held, min: f32, max: f32) -> Held
-    ensures { result ≡ betterOf kind b.now h min max }
+    ensures { result ≡ better_of kind b.now h min max }
 {
     let candidate = hold(kind, b, min, max);
     if candidate.error < h.error {
@@ -34,25 +34,25 @@ pub fn better(kind: Kind, b: &[f32; 16], h: Held, min: f32, max: f32) -> Held
 }
 
 fn moved(step: f32, i: usize) -> f32
-    ensures { result ≡ movedOf step i }
+    ensures { result ≡ moved_of step i }
 {
     floats::pick(i < 2, step, -step)
 }
 
 fn delta_min(step: f32, i: usize) -> f32
-    ensures { result ≡ deltaMin step i }
+    ensures { result ≡ delta_min step i }
 {
     floats::pick(i % 2 == 0, moved(step, i), 0.0)
 }
 
 fn delta_max(step: f32, i: usize) -> f32
-    ensures { result ≡ deltaMax step i }
+    ensures { result ≡ delta_max step i }
 {
     floats::pick(i % 2 == 0, 0.0, moved(step, i))
 }
 
 fn tried(kind: Kind, b: &[f32; 16], h: Held, min: f32, max: f32) -> Held
-    ensures { result ≡ triedOf kind b.now h min max }
+    ensures { result ≡ tried_of kind b.now h min max }
 {
     if min < max {
         return better(kind, b, h, min, max);
@@ -62,7 +62,7 @@ fn tried(kind: Kind, b: &[f32; 16], h: Held, min: f32, max: f32) -> Held
 
 // Four candidates, all from the pair that the round starts with.
 fn round(kind: Kind, b: &[f32; 16], start: Held, step: f32) -> Held
-    ensures { result ≡ roundOf kind b.now start step }
+    ensures { result ≡ round_of kind b.now start step }
 {
     let mut h = start;
     for i in 0..4usize {
@@ -74,7 +74,7 @@ fn round(kind: Kind, b: &[f32; 16], start: Held, step: f32) -> Held
 }
 
 fn rounds(kind: Kind, b: &[f32; 16], least: f32, limit: u8, first: f32, start: Held) -> Held
-    ensures { result ≡ roundsOf kind b.now least limit first start }
+    ensures { result ≡ rounds_of kind b.now least limit first start }
 {
     let mut step = first;
     let mut h = start;

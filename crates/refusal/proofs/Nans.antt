@@ -10,42 +10,42 @@ use lib.ListN.{length, drop, get_or, drop_of_length-le}
 use lib.Seq.{drop-cons}
 use lib.Ieee.{Float, nan, ne}
 use borrow.Author.Tests.{lt-ltb, le-ltb}
-use Rattle.floats.proofs.Order.{ne-self}
-use Rattle.refusal.specs.Refusals.{firstNan}
+use Rattle.floats.proofs.Order.{ne_self}
+use Rattle.refusal.specs.Refusals.{first_nan}
 
 -- ---- one step of the search: i samples are passed, and none is NaN
 abbrev pub Passed-to : List Float → ℕ → Type 0
-Passed-to s i = firstNan s ≡ i + firstNan (drop i s)
+Passed-to s i = first_nan s ≡ i + first_nan (drop i s)
 
-pub nan-here : (s : List Float) (i : ℕ) → i < length s → Passed-to s i → ne (get_or s i nan) (get_or s i nan) ≡ true → i ≡ firstNan s
-unfolding firstNan
-nan-here s i h e t =
-    let z : firstNan (drop i s) ≡ 0 = rw (drop-cons s i nan h, sym (ne-self (get_or s i nan)) ∙ t) refl in
+pub nan_here : (s : List Float) (i : ℕ) → i < length s → Passed-to s i → ne (get_or s i nan) (get_or s i nan) ≡ true → i ≡ first_nan s
+unfolding first_nan
+nan_here s i h e t =
+    let z : first_nan (drop i s) ≡ 0 = rw (drop-cons s i nan h, sym (ne_self (get_or s i nan)) ∙ t) refl in
     omega arith
 
-pub nan-later : (s : List Float) (i : ℕ) → i < length s → Passed-to s i → ne (get_or s i nan) (get_or s i nan) ≡ false → Passed-to s (i + 1)
-unfolding firstNan
-nan-later s i h e t =
-    let z : firstNan (drop i s) ≡ suc (firstNan (drop (suc i) s)) = rw (drop-cons s i nan h, sym (ne-self (get_or s i nan)) ∙ t) refl in
+pub nan_later : (s : List Float) (i : ℕ) → i < length s → Passed-to s i → ne (get_or s i nan) (get_or s i nan) ≡ false → Passed-to s (i + 1)
+unfolding first_nan
+nan_later s i h e t =
+    let z : first_nan (drop i s) ≡ suc (first_nan (drop (suc i) s)) = rw (drop-cons s i nan h, sym (ne_self (get_or s i nan)) ∙ t) refl in
     rw (add-one i) (omega arith)
 
-pub nan-none : (s : List Float) (i : ℕ) → length s ≤ i → Passed-to s i → i ≡ firstNan s
-unfolding firstNan
-nan-none s i h e = let z : firstNan (drop i s) ≡ 0 = rw (drop_of_length-le s h) refl in omega arith
+pub nan_none : (s : List Float) (i : ℕ) → length s ≤ i → Passed-to s i → i ≡ first_nan s
+unfolding first_nan
+nan_none s i h e = let z : first_nan (drop i s) ≡ 0 = rw (drop_of_length-le s h) refl in omega arith
 
 -- ---- the same without a way out: a flag says whether one was found among the first i
 abbrev pub Looked : List Float → Bool → ℕ → Type 0
-Looked s true i = firstNan s < i
+Looked s true i = first_nan s < i
 Looked s false i = Passed-to s i
 
-looked-at : (s : List Float) (i : ℕ) (t : Bool) → i < length s → Passed-to s i → ne (get_or s i nan) (get_or s i nan) ≡ t → Looked s t (i + 1)
-looked-at s i true h e t = let z = nan-here s i h e t in omega arith
-looked-at s i false h e t = nan-later s i h e t
+looked_at_lem : (s : List Float) (i : ℕ) (t : Bool) → i < length s → Passed-to s i → ne (get_or s i nan) (get_or s i nan) ≡ t → Looked s t (i + 1)
+looked_at_lem s i true h e t = let z = nan_here s i h e t in omega arith
+looked_at_lem s i false h e t = nan_later s i h e t
 
-pub looked-later : (s : List Float) (found : Bool) (i : ℕ) → i < length s → Looked s found i → Looked s (found || ne (get_or s i nan) (get_or s i nan)) (i + 1)
-looked-later s true i h l = omega arith
-looked-later s false i h l = looked-at s i _ h l refl
+pub looked_later : (s : List Float) (found : Bool) (i : ℕ) → i < length s → Looked s found i → Looked s (found || ne (get_or s i nan) (get_or s i nan)) (i + 1)
+looked_later s true i h l = omega arith
+looked_later s false i h l = looked_at_lem s i _ h l refl
 
-pub looked-all : (s : List Float) (found : Bool) (i : ℕ) → length s ≤ i → i ≤ length s → Looked s found i → found ≡ ltb (firstNan s) (length s)
-looked-all s true i h k l = sym (lt-ltb (firstNan s) (length s) (omega arith))
-looked-all s false i h k l = let z = nan-none s i h l in sym (le-ltb (firstNan s) (length s) (omega arith))
+pub looked_all : (s : List Float) (found : Bool) (i : ℕ) → length s ≤ i → i ≤ length s → Looked s found i → found ≡ ltb (first_nan s) (length s)
+looked_all s true i h k l = sym (lt-ltb (first_nan s) (length s) (omega arith))
+looked_all s false i h k l = let z = nan_none s i h l in sym (le-ltb (first_nan s) (length s) (omega arith))

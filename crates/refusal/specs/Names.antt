@@ -10,46 +10,46 @@ use Rattle.refusal.specs.declared.Field.{Field}
 use Rattle.refusal.specs.declared.Field.TheVariants.{Header, Extension, Magic, HeaderSize, FourCharacters, ExtensionFormat, MipCount, Depth, CubeFaces, ArraySize}
 
 -- the number of the refusal that names a field: two fields or more share each
-abbrev pub numberFor : Field → ℕ
-numberFor Header = 11
-numberFor Extension = 11
-numberFor Magic = 12
-numberFor HeaderSize = 12
-numberFor FourCharacters = 13
-numberFor ExtensionFormat = 13
-numberFor MipCount = 14
-numberFor Depth = 14
-numberFor CubeFaces = 14
-numberFor ArraySize = 14
+abbrev pub number_for : Field → ℕ
+number_for Header = 11
+number_for Extension = 11
+number_for Magic = 12
+number_for HeaderSize = 12
+number_for FourCharacters = 13
+number_for ExtensionFormat = 13
+number_for MipCount = 14
+number_for Depth = 14
+number_for CubeFaces = 14
+number_for ArraySize = 14
 
 -- a side, a field or a channel as a number, for the detail of a refusal; 0 is none
-abbrev pub whatSide : Side → ℕ
-whatSide Width = 1
-whatSide Height = 2
+abbrev pub what_side : Side → ℕ
+what_side Width = 1
+what_side Height = 2
 
-abbrev pub whatOf : Field → ℕ
-whatOf Header = 3
-whatOf Extension = 4
-whatOf Magic = 5
-whatOf HeaderSize = 6
-whatOf FourCharacters = 7
-whatOf ExtensionFormat = 8
-whatOf MipCount = 9
-whatOf Depth = 10
-whatOf CubeFaces = 11
-whatOf ArraySize = 12
+abbrev pub what_of : Field → ℕ
+what_of Header = 3
+what_of Extension = 4
+what_of Magic = 5
+what_of HeaderSize = 6
+what_of FourCharacters = 7
+what_of ExtensionFormat = 8
+what_of MipCount = 9
+what_of Depth = 10
+what_of CubeFaces = 11
+what_of ArraySize = 12
 
-abbrev pub whatChannel : Channel → ℕ
-whatChannel First = 13
-whatChannel Second = 14
+abbrev pub what_channel : Channel → ℕ
+what_channel First = 13
+what_channel Second = 14
 
 -- what is wrong in a channel: the number that it has where there is one, and the four numbers of its detail, the channel's first
-abbrev pub faultNumber : Fault → ℕ
-faultNumber (Count channel) = 2
-faultNumber (Nan channel i) = 7
-faultNumber (TileNan channel spot) = 7
+abbrev pub fault_number : Fault → ℕ
+fault_number (Count channel) = 2
+fault_number (Nan channel i) = 7
+fault_number (TileNan channel spot) = 7
 
-abbrev pub faultDetail : Fault → List ℕ
-faultDetail (Count channel) = whatChannel channel ∷ 0 ∷ 0 ∷ 0 ∷ []
-faultDetail (Nan channel i) = whatChannel channel ∷ i ∷ 0 ∷ 0 ∷ []
-faultDetail (TileNan channel spot) = whatChannel channel ∷ spot.index ∷ spot.row ∷ spot.column ∷ []
+abbrev pub fault_detail : Fault → List ℕ
+fault_detail (Count channel) = what_channel channel ∷ 0 ∷ 0 ∷ 0 ∷ []
+fault_detail (Nan channel i) = what_channel channel ∷ i ∷ 0 ∷ 0 ∷ []
+fault_detail (TileNan channel spot) = what_channel channel ∷ spot.index ∷ spot.row ∷ spot.column ∷ []

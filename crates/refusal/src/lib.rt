@@ -1,6 +1,6 @@
 // Document 01, "Calls and numbers", and document 02: every refusal, its number, what it brings with it, and the checks of each call in their order.
 ghost use Rattle.std.specs.Prelude.{◌≡◌, length};
-ghost use Rattle.refusal.specs.Refusals.{first_of, orMalformed, encodeChecks, decodeChecks, errorChecks, resendChecks, tileChecks, viewChecks};
+ghost use Rattle.refusal.specs.Refusals.{first_of, or_malformed, encode_checks, decode_checks, error_checks, resend_checks, tile_checks, view_checks};
 
 mod nan;
 mod shape;
@@ -104,7 +104,7 @@ pub enum Checked {
 }
 
 pub fn encode(samples: &[f32]) -> Checked
-    ensures { result ≡ first_of (encodeChecks samples.now) }
+    ensures { result ≡ first_of (encode_checks samples.now) }
 {
     if samples.len() != 16 {
         return Checked::Refused(Refusal::SampleCount);
@@ -113,7 +113,7 @@ pub fn encode(samples: &[f32]) -> Checked
 }
 
 pub fn decode(encoded: &[u8]) -> Checked
-    ensures { result ≡ first_of (decodeChecks encoded.now) }
+    ensures { result ≡ first_of (decode_checks encoded.now) }
 {
     if encoded.len() != place::BC4_SIZE {
         return Checked::Refused(Refusal::EncodedLength);
@@ -122,7 +122,7 @@ pub fn decode(encoded: &[u8]) -> Checked
 }
 
 pub fn error(samples: &[f32], encoded: &[u8]) -> Checked
-    ensures { result ≡ first_of (errorChecks samples.now encoded.now) }
+    ensures { result ≡ first_of (error_checks samples.now encoded.now) }
 {
     if samples.len() != 16 {
         return Checked::Refused(Refusal::SampleCount);
@@ -134,7 +134,7 @@ pub fn error(samples: &[f32], encoded: &[u8]) -> Checked
 }
 
 pub fn resend(samples: &[f32], held: &[u8], o: Options) -> Checked
-    ensures { result ≡ first_of (resendChecks samples.now held.now o) }
+    ensures { result ≡ first_of (resend_checks samples.now held.now o) }
 {
     if samples.len() != 16 {
         return Checked::Refused(Refusal::SampleCount);
@@ -150,7 +150,7 @@ pub fn resend(samples: &[f32], held: &[u8], o: Options) -> Checked
 
 // `room` is the length of the output.
 pub fn tile(samples: &[f32], width: usize, height: usize, room: usize) -> Checked
-    ensures { result ≡ first_of (tileChecks samples.now width height room) }
+    ensures { result ≡ first_of (tile_checks samples.now width height room) }
 {
     let checked = size(width, height);
     match checked {
@@ -169,14 +169,14 @@ pub fn tile(samples: &[f32], width: usize, height: usize, room: usize) -> Checke
 }
 
 pub fn view(tile: &[u8], width: usize, height: usize, column: usize, row: usize) -> Checked
-    ensures { result ≡ first_of (viewChecks (length tile.now) width height column row) }
+    ensures { result ≡ first_of (view_checks (length tile.now) width height column row) }
 {
     view_of(place::BC4_SIZE, tile.len(), width, height, column, row)
 }
 
 // Of a call whose options word is malformed: what the call refuses for another reason comes first.
 pub fn or_malformed(checked: Checked) -> Refusal
-    ensures { result ≡ orMalformed checked }
+    ensures { result ≡ or_malformed checked }
 {
     match checked {
         Checked::Refused(q) => q,

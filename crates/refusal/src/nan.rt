@@ -1,12 +1,12 @@
 // The first sample that is NaN.
 ghost use Rattle.std.specs.Prelude.{◌≡◌, [], ◌∷◌, ◌<◌, ltb, length};
-ghost use Rattle.refusal.specs.Refusals.{first_of, firstNan, nanCheck, nanIn, spot_of, tileNanCheck, tileNanIn};
+ghost use Rattle.refusal.specs.Refusals.{first_of, first_nan, nan_check, nan_in, spot_of, tile_nan_check, tile_nan_in};
 
 use crate::{Channel, Checked, Fault, Refusal, Spot};
 
 // Looks at all of them: without a way out of its loop it takes four at a time.
 fn any_nan(samples: &[f32]) -> bool
-    ensures { result ≡ ltb (firstNan samples.now) (length samples.now) }
+    ensures { result ≡ ltb (first_nan samples.now) (length samples.now) }
 {
     let mut found = false;
     let mut i = 0;
@@ -20,7 +20,7 @@ fn any_nan(samples: &[f32]) -> bool
 
 // The index of the first NaN, or the length where there is none.
 fn first_nan(samples: &[f32]) -> usize
-    ensures { result ≡ firstNan samples.now }
+    ensures { result ≡ first_nan samples.now }
 {
     let mut i = 0;
     while i < samples.len() {
@@ -36,7 +36,7 @@ fn first_nan(samples: &[f32]) -> usize
 // Where it stands in a tile.
 fn first_spot(samples: &[f32], width: usize) -> Spot
     requires { 0 < width }
-    ensures { result ≡ spot_of width (firstNan samples.now) }
+    ensures { result ≡ spot_of width (first_nan samples.now) }
 {
     let index = first_nan(samples);
     let row = index / width;
@@ -49,7 +49,7 @@ fn first_spot(samples: &[f32], width: usize) -> Spot
 }
 
 pub fn no_nan(samples: &[f32]) -> Checked
-    ensures { result ≡ first_of (nanCheck samples.now ∷ []) }
+    ensures { result ≡ first_of (nan_check samples.now ∷ []) }
 {
     if any_nan(samples) {
         return Checked::Refused(Refusal::SampleIsNan(first_nan(samples)));
@@ -59,7 +59,7 @@ pub fn no_nan(samples: &[f32]) -> Checked
 
 pub fn no_tile_nan(samples: &[f32], width: usize) -> Checked
     requires { 0 < width }
-    ensures { result ≡ first_of (tileNanCheck samples.now width ∷ []) }
+    ensures { result ≡ first_of (tile_nan_check samples.now width ∷ []) }
 {
     if any_nan(samples) {
         return Checked::Refused(Refusal::TileSampleIsNan(first_spot(samples, width)));
@@ -69,7 +69,7 @@ pub fn no_tile_nan(samples: &[f32], width: usize) -> Checked
 
 // The same of one of two channels, which the refusal says.
 pub fn no_nan_in(channel: Channel, samples: &[f32]) -> Checked
-    ensures { result ≡ first_of (nanIn channel samples.now ∷ []) }
+    ensures { result ≡ first_of (nan_in channel samples.now ∷ []) }
 {
     if any_nan(samples) {
         let index = first_nan(samples);
@@ -80,7 +80,7 @@ pub fn no_nan_in(channel: Channel, samples: &[f32]) -> Checked
 
 pub fn no_tile_nan_in(channel: Channel, samples: &[f32], width: usize) -> Checked
     requires { 0 < width }
-    ensures { result ≡ first_of (tileNanIn channel samples.now width ∷ []) }
+    ensures { result ≡ first_of (tile_nan_in channel samples.now width ∷ []) }
 {
     if any_nan(samples) {
         let spot = first_spot(samples, width);

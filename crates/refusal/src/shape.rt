@@ -1,14 +1,14 @@
 // The size of a tile: one list of checks, and the function that runs it for every call that has a size.
 ghost use Rattle.std.specs.Prelude.{◌≡◌, true, ◌≤◌};
-ghost use Rattle.place.specs.Place.{badSize, bc5Size};
-ghost use Rattle.refusal.specs.Refusals.{first_of, sizeChecks, bytesChecksOf, bytesChecks, viewChecksOf};
+ghost use Rattle.place.specs.Place.{bad_size, bc5_size};
+ghost use Rattle.refusal.specs.Refusals.{first_of, size_checks, bytes_checks_of, bytes_checks, view_checks_of};
 
 use crate::{Checked, Refusal, Side};
 
 // What is wrong with a size that is: by number, and of one number the width before the height.
 fn wrong_size(width: usize, height: usize) -> Refusal
-    requires { badSize width height ≡ true }
-    ensures { Checked.Refused result ≡ first_of (sizeChecks width height) }
+    requires { bad_size width height ≡ true }
+    ensures { Checked.Refused result ≡ first_of (size_checks width height) }
 {
     if width == 0 {
         return Refusal::SideIsZero(Side::Width);
@@ -30,7 +30,7 @@ fn wrong_size(width: usize, height: usize) -> Refusal
 
 // A good size passes by a single test.
 pub fn size(width: usize, height: usize) -> Checked
-    ensures { result ≡ first_of (sizeChecks width height) }
+    ensures { result ≡ first_of (size_checks width height) }
 {
     if place::bad_size(width, height) {
         return Checked::Refused(wrong_size(width, height));
@@ -40,8 +40,8 @@ pub fn size(width: usize, height: usize) -> Checked
 
 // The bytes of a tile: its size, and then their count. `size` is the bytes of a block, here and below.
 fn bytes_of(size: usize, long: usize, width: usize, height: usize) -> Checked
-    requires { size ≤ bc5Size }
-    ensures { result ≡ first_of (bytesChecksOf size long width height) }
+    requires { size ≤ bc5_size }
+    ensures { result ≡ first_of (bytes_checks_of size long width height) }
 {
     let checked = crate::size(width, height);
     match checked {
@@ -56,7 +56,7 @@ fn bytes_of(size: usize, long: usize, width: usize, height: usize) -> Checked
 }
 
 pub fn tile_bytes(long: usize, width: usize, height: usize) -> Checked
-    ensures { result ≡ first_of (bytesChecks long width height) }
+    ensures { result ≡ first_of (bytes_checks long width height) }
 {
     bytes_of(place::BC4_SIZE, long, width, height)
 }
@@ -70,8 +70,8 @@ pub fn view_of(
     column: usize,
     row: usize,
 ) -> Checked
-    requires { size ≤ bc5Size }
-    ensures { result ≡ first_of (viewChecksOf size long width height column row) }
+    requires { size ≤ bc5_size }
+    ensures { result ≡ first_of (view_checks_of size long width height column row) }
 {
     let checked = bytes_of(size, long, width, height);
     match checked {

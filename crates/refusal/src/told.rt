@@ -1,13 +1,13 @@
 // What a refusal tells: its number, and what it brings with it.
 ghost use Rattle.std.specs.Prelude.{◌≡◌};
-ghost use Rattle.refusal.specs.Names.{numberFor, whatSide, whatOf, faultNumber, whatChannel, faultDetail};
-ghost use Rattle.refusal.specs.Refusals.{number_of, detailOf};
+ghost use Rattle.refusal.specs.Names.{number_for, what_side, what_of, fault_number, what_channel, fault_detail};
+ghost use Rattle.refusal.specs.Refusals.{number_of, detail_of};
 
 use crate::{Channel, Fault, Field, Refusal, Side};
 
 // The number of the refusal that names a field.
 fn number_for(field: Field) -> u8
-    ensures { result ≡ numberFor field }
+    ensures { result ≡ number_for field }
 {
     match field {
         Field::Header => 11,
@@ -25,7 +25,7 @@ fn number_for(field: Field) -> u8
 
 // A side as a number, for a detail.
 fn what_side(side: Side) -> usize
-    ensures { result ≡ whatSide side }
+    ensures { result ≡ what_side side }
 {
     match side {
         Side::Width => 1,
@@ -35,7 +35,7 @@ fn what_side(side: Side) -> usize
 
 // A field as a number, for a detail.
 fn what_of(field: Field) -> usize
-    ensures { result ≡ whatOf field }
+    ensures { result ≡ what_of field }
 {
     match field {
         Field::Header => 3,
@@ -53,7 +53,7 @@ fn what_of(field: Field) -> usize
 
 // A channel as a number, for a detail.
 fn what_channel(channel: Channel) -> usize
-    ensures { result ≡ whatChannel channel }
+    ensures { result ≡ what_channel channel }
 {
     match channel {
         Channel::First => 13,
@@ -63,7 +63,7 @@ fn what_channel(channel: Channel) -> usize
 
 // The number of what is wrong in a channel.
 fn fault_number(fault: Fault) -> u8
-    ensures { result ≡ faultNumber fault }
+    ensures { result ≡ fault_number fault }
 {
     match fault {
         Fault::Count(_) => 2,
@@ -73,7 +73,7 @@ fn fault_number(fault: Fault) -> u8
 }
 
 fn fault_detail(fault: Fault) -> [usize; 4]
-    ensures { result ≡ faultDetail fault }
+    ensures { result ≡ fault_detail fault }
 {
     match fault {
         Fault::Count(channel) => [what_channel(channel), 0, 0, 0],
@@ -109,7 +109,7 @@ pub fn number(refusal: Refusal) -> u8
 
 // What a refusal brings with it: what, index, row and column, 0 for what it says nothing about. Where it has nothing to say they stay.
 pub fn detail(refusal: Refusal, numbers: &mut [usize; 4])
-    ensures { numbers.new ≡ detailOf refusal numbers.old }
+    ensures { numbers.new ≡ detail_of refusal numbers.old }
 {
     match refusal {
         Refusal::SideIsZero(side) => {

@@ -7,25 +7,25 @@ use Rattle.replay.specs.declared.Tally.{Tally}
 use Rattle.lines.specs.Answers.{answer_of}
 
 -- the eight bytes of the Rust, byte 0 lowest
-abbrev pub rustOf : List ℕ → ℕ
-rustOf entry = field_at 4 entry 68 + 2 ^ 32 * field_at 4 entry 72
+abbrev pub rust_of : List ℕ → ℕ
+rust_of entry = field_at 4 entry 68 + 2 ^ 32 * field_at 4 entry 72
 
 unfoldable pub unlike : Encoded → ℕ → Bool
 unlike (Block b) rust = not (eqb b rust)
 unlike (Refused q) rust = true
 
-unfoldable pub differsOf : List ℕ → Bool
-differsOf entry = unlike (answer_of (take 68 entry)) (rustOf entry)
+unfoldable pub differs_of : List ℕ → Bool
+differs_of entry = unlike (answer_of (take 68 entry)) (rust_of entry)
 
 -- entry i of the list
 abbrev pub entry_at : List ℕ → ℕ → List ℕ
 entry_at input i = take 76 (drop (i * 76) input)
 
 -- how many of the first n entries differ
-unfoldable pub differingTo : List ℕ → ℕ → ℕ
-differingTo input zero = 0
-differingTo input (suc n) = differingTo input n + cond (differsOf (entry_at input n)) 1 0
+unfoldable pub differing_to : List ℕ → ℕ → ℕ
+differing_to input zero = 0
+differing_to input (suc n) = differing_to input n + cond (differs_of (entry_at input n)) 1 0
 
 -- a tally of records and differing ones, after the whole entries of one more buffer
 unfoldable pub tallied : ℕ → ℕ → List ℕ → Tally
-tallied records differ input = record { records = records + length input / 76; differ = differ + differingTo input (length input / 76) }
+tallied records differ input = record { records = records + length input / 76; differ = differ + differing_to input (length input / 76) }

@@ -1,7 +1,7 @@
 // Compares the encoder with what the Rust text answered. Standard input is a list of entries of 76 bytes: a record of 68 bytes, as the
 // program `records` reads it, and the eight bytes that the Rust gave for it.
 ghost use Rattle.std.specs.Prelude.{◌≡◌, ◌+◌, ◌*◌, ◌≤◌, ◌<◌, length};
-ghost use Rattle.replay.specs.Entry.{differsOf, tallied};
+ghost use Rattle.replay.specs.Entry.{differs_of, tallied};
 
 use bc4::Encoded;
 use libc::{STDIN_FILENO, STDOUT_FILENO};
@@ -23,7 +23,7 @@ fn joined(low: u32, high: u32) -> u64
 // A record that is refused differs: the Rust refuses none.
 fn differs(entry: &[u8]) -> bool
     requires { length entry.now ≡ 76 }
-    ensures { result ≡ differsOf entry.now }
+    ensures { result ≡ differs_of entry.now }
 {
     let rust = joined(fields::read_u32(entry, 68), fields::read_u32(entry, 72));
     let answer = lines::answer_to(&entry[..68]);

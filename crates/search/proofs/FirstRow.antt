@@ -9,61 +9,61 @@ use native.Mathlib.Omega.{arith}
 use lib.ListN.{get_or, set, length-set}
 use lib.Seq.{get_or-set_same, get_or-set_other}
 use lib.Ieee.{Float, nan, lt, ne}
-use Rattle.floats.specs.Helpers.{laneMax}
+use Rattle.floats.specs.Helpers.{lane_max}
 use Rattle.floats.proofs.Tests.{clash, either}
-use Rattle.floats.proofs.Order.{lt_trans, lt-cotrans, lt-right, ne-self}
+use Rattle.floats.proofs.Order.{lt_trans, lt_cotrans, lt_right, ne_self}
 use Rattle.values.specs.Values.{value_of}
-use Rattle.block.proofs.Fill.{length-tabulate, get_d_tabulate}
+use Rattle.block.proofs.Fill.{length_tabulate, get_d_tabulate}
 use Rattle.end_points.specs.EndPoints.{of_bytes}
 use Rattle.palette.specs.declared.Kind.{Kind}
 use Rattle.palette.specs.declared.Kind.TheVariants.{Six, Four}
-use Rattle.palette.specs.Rows.{firstRowError}
-use Rattle.palette.proofs.ErrorFloor.{row-floor}
-use Rattle.search.specs.Covered.{pairError}
-use Rattle.search.specs.Floor.{maxFloor, maxFloors, rowFloor, Floors}
-use Rattle.search.proofs.PassedOver.{max-floor}
+use Rattle.palette.specs.Rows.{first_row_error}
+use Rattle.palette.proofs.ErrorFloor.{row_floor_lem}
+use Rattle.search.specs.Covered.{pair_error}
+use Rattle.search.specs.Floor.{max_floor, max_floors, row_floor, Floors}
+use Rattle.search.proofs.PassedOver.{max_floor_lem}
 
 -- ---- the lesser of two, or a NaN
-not-below-lesser : (e a c : Float) → (lt e a ≡ false) ⊎ (lt e c ≡ false) → lt e (cond (lt a c || ne a a) a c) ≡ false
-not-below-lesser e a c h = go (lt a c) refl (ne a a) refl
+not_below_lesser : (e a c : Float) → (lt e a ≡ false) ⊎ (lt e c ≡ false) → lt e (cond (lt a c || ne a a) a c) ≡ false
+not_below_lesser e a c h = go (lt a c) refl (ne a a) refl
   where
     go : (t : Bool) → lt a c ≡ t → (u : Bool) → ne a a ≡ u → lt e (cond (t || u) a c) ≡ false
     go true p u q = ⊎_elim (λ k. k) (λ k. ⊎_elim (λ l. clash (lt_trans e a c l p) k) (λ l. l) (either (lt e a))) h
-    go false p true q = ⊎_elim (λ l. clash q (ne-self a ∙ lt-right e a l)) (λ l. l) (either (lt e a))
+    go false p true q = ⊎_elim (λ l. clash q (ne_self a ∙ lt_right e a l)) (λ l. l) (either (lt e a))
     go false p false q =
         ⊎_elim
-        (λ k. ⊎_elim (λ l. ⊎_elim (λ i. clash i k) (λ i. clash i p) (lt-cotrans e a c (sym (ne-self a) ∙ q) l)) (λ l. l) (either (lt e c)))
+        (λ k. ⊎_elim (λ l. ⊎_elim (λ i. clash i k) (λ i. clash i p) (lt_cotrans e a c (sym (ne_self a) ∙ q) l)) (λ l. l) (either (lt e c)))
         (λ k. k)
         h
 
-not-below-larger : (e a c : Float) → lt e a ≡ false → lt e c ≡ false → lt e (laneMax a c) ≡ false
-not-below-larger e a c p q = go (lt c a)
+not_below_larger : (e a c : Float) → lt e a ≡ false → lt e c ≡ false → lt e (lane_max a c) ≡ false
+not_below_larger e a c p q = go (lt c a)
   where
     go : (t : Bool) → lt e (cond t a c) ≡ false
     go true = p
     go false = q
 
 module _ (b : List Float) (min : ℕ) where
-  pub pair_row : (max : ℕ) (kind : Kind) → lt (pairError kind b min max) (rowFloor b (value_of min false) (value_of max false)) ≡ false
-  unfolding rowFloor of_bytes
-  pair_row max Six = not-below-lesser _ (firstRowError Six b _ _) (firstRowError Four b _ _) (inl (row-floor Six b (value_of max false) (value_of min false)))
-  pair_row max Four = not-below-lesser _ (firstRowError Six b _ _) (firstRowError Four b _ _) (inr (row-floor Four b (value_of min false) (value_of max false)))
+  pub pair_row : (max : ℕ) (kind : Kind) → lt (pair_error kind b min max) (row_floor b (value_of min false) (value_of max false)) ≡ false
+  unfolding row_floor of_bytes
+  pair_row max Six = not_below_lesser _ (first_row_error Six b _ _) (first_row_error Four b _ _) (inl (row_floor_lem Six b (value_of max false) (value_of min false)))
+  pair_row max Four = not_below_lesser _ (first_row_error Six b _ _) (first_row_error Four b _ _) (inr (row_floor_lem Four b (value_of min false) (value_of max false)))
 
   -- ---- as the code raises them
-  pub floors-start : Floors b min (maxFloors b)
-  floors-start = record {
-    size = length-tabulate (maxFloor b) 0 256;
-    each = λ max h l kind. rw get_d_tabulate (max-floor b min max h (omega arith) kind);
+  pub floors_start : Floors b min (max_floors b)
+  floors_start = record {
+    size = length_tabulate (max_floor b) 0 256;
+    each = λ max h l kind. rw get_d_tabulate (max_floor_lem b min max h (omega arith) kind);
   }
 
-  pub floors-raised : (out : List Float) (at : ℕ) (v : Float) → Floors b min out → at < 256
-      → v ≡ laneMax (get_or out at nan) (rowFloor b (value_of min false) (value_of at false)) → Floors b min (set out at v)
-  floors-raised out at v f a e = record {
+  pub floors_raised : (out : List Float) (at : ℕ) (v : Float) → Floors b min out → at < 256
+      → v ≡ lane_max (get_or out at nan) (row_floor b (value_of min false) (value_of at false)) → Floors b min (set out at v)
+  floors_raised out at v f a e = record {
     size = simp length-set f.size;
     each = λ max h l kind. dite (ℕ_discrete max at) (λ k. own max k h l kind) (λ k. rw (get_or-set_other out at max v nan k) (f.each max h l kind));
   }
     where
-      own : (max : ℕ) → max ≡ at → min < max → max < 256 → (kind : Kind) → lt (pairError kind b min max) (get_or (set out at v) max nan) ≡ false
+      own : (max : ℕ) → max ≡ at → min < max → max < 256 → (kind : Kind) → lt (pair_error kind b min max) (get_or (set out at v) max nan) ≡ false
       own max k h l kind =
           rw (k, get_or-set_same out at v nan (subst (λ (m : ℕ). at < m) (sym f.size) a), e)
-          (not-below-larger _ _ _ (f.each at (subst (λ (m : ℕ). min < m) k h) a kind) (pair_row at kind))
+          (not_below_larger _ _ _ (f.each at (subst (λ (m : ℕ). min < m) k h) a kind) (pair_row at kind))

@@ -8,13 +8,13 @@ use Prim.Native.Nat.{ℕ, ◌≤◌, ◌<◌}
 use native.Mathlib.Omega.{arith}
 use lib.Ieee.{Float, nan, inf, fin, lt, is_nan}
 use Rattle.floats.proofs.Tests.{clash}
-use Rattle.floats.proofs.Order.{lt-left, lt-cotrans}
+use Rattle.floats.proofs.Order.{lt_left, lt_cotrans}
 use Rattle.palette.specs.declared.Kind.TheVariants.{Six, Four}
 use Rattle.coding.specs.declared.Coded.{Coded}
 use Rattle.coding.specs.Coding.{smaller}
-use Rattle.search.specs.Search.{pairTried, minsTried}
-use Rattle.search.specs.Covered.{pairError}
-use Rattle.search.proofs.EveryPair.{first-le, candidate, pair_is, mins-below, mins-both}
+use Rattle.search.specs.Search.{pair_tried, mins_tried}
+use Rattle.search.specs.Covered.{pair_error}
+use Rattle.search.proofs.EveryPair.{first_le, candidate, pair_is, mins_below, mins_both}
 
 abbrev from : Float → Coded
 from x = record { bytes = 0; error = x }
@@ -30,27 +30,27 @@ top (fin s m e) = refl
 abbrev Alike : Float → Coded → Coded → Type 0
 Alike x g h = (g ≡ h) ⊎ ((g.error ≡ x) × (lt h.error x ≡ false) × (is_nan h.error ≡ false))
 
-kept-alike : (x : Float) (g h new : Coded) → Alike x g h → Alike x (smaller g new) (smaller h new)
-kept-alike x g h new (inl e) = inl (ap (λ (k : Coded). smaller k new) e)
-kept-alike x g h new (inr (e, n, r)) = go (lt new.error g.error) refl (lt new.error h.error) refl
+kept_alike : (x : Float) (g h new : Coded) → Alike x g h → Alike x (smaller g new) (smaller h new)
+kept_alike x g h new (inl e) = inl (ap (λ (k : Coded). smaller k new) e)
+kept_alike x g h new (inr (e, n, r)) = go (lt new.error g.error) refl (lt new.error h.error) refl
   where
     at : (t : Bool) → lt new.error g.error ≡ t → lt new.error x ≡ t
     at t = subst (λ (y : Float). lt new.error y ≡ t) e
 
     go : (t : Bool) → lt new.error g.error ≡ t → (u : Bool) → lt new.error h.error ≡ u → Alike x (cond t new g) (cond u new h)
     go true p true q = inl refl
-    go true p false q = ⊎_elim (λ k. clash k q) (λ k. clash k n) (lt-cotrans new.error h.error x r (at true p))
-    go false p true q = inr (e, at false p, lt-left new.error h.error q)
+    go true p false q = ⊎_elim (λ k. clash k q) (λ k. clash k n) (lt_cotrans new.error h.error x r (at true p))
+    go false p true q = inr (e, at false p, lt_left new.error h.error q)
     go false p false q = inr (e, n, r)
 
 module _ (b : List Float) where
-  alike : (x : Float) (g h : Coded) (min max : ℕ) → Alike x g h → Alike x (pairTried b g min max) (pairTried b h min max)
-  alike x g h min max a = rw (pair_is b g min max, pair_is b h min max) (kept-alike x _ _ (candidate b Four min max) (kept-alike x g h (candidate b Six min max) a))
+  alike : (x : Float) (g h : Coded) (min max : ℕ) → Alike x g h → Alike x (pair_tried b g min max) (pair_tried b h min max)
+  alike x g h min max a = rw (pair_is b g min max, pair_is b h min max) (kept_alike x _ _ (candidate b Four min max) (kept_alike x g h (candidate b Six min max) a))
 
   -- the pair is one that is tried
-  pub started : (x : Float) (least limit : ℕ) → limit ≤ 255 → (x ≡ inf false) ⊎ ((least < limit) × (lt (pairError Six b least limit) x ≡ true))
-      → minsTried b least (from x) limit ≡ minsTried b least (from (inf false)) limit
+  pub started : (x : Float) (least limit : ℕ) → limit ≤ 255 → (x ≡ inf false) ⊎ ((least < limit) × (lt (pair_error Six b least limit) x ≡ true))
+      → mins_tried b least (from x) limit ≡ mins_tried b least (from (inf false)) limit
   started x least limit m (inl e) = rw e
   started x least limit m (inr (l, below)) =
-      ⊎_elim (λ e. e) (λ o. clash below (rw (← o.0) (mins-below b Six least limit (from x) least limit l (first-le least least limit (omega arith) l) m)))
-      (mins-both b (Alike x) (alike x) (from x) (from (inf false)) least limit (inr (refl, top x, unfold is_nan in refl)))
+      ⊎_elim (λ e. e) (λ o. clash below (rw (← o.0) (mins_below b Six least limit (from x) least limit l (first_le least least limit (omega arith) l) m)))
+      (mins_both b (Alike x) (alike x) (from x) (from (inf false)) least limit (inr (refl, top x, unfold is_nan in refl)))

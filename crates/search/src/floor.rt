@@ -1,6 +1,6 @@
 // Floors of palette errors, by which the search passes pairs over that cannot be the answer.
 ghost use Rattle.std.specs.Prelude.{◌≡◌, ◌≤◌};
-ghost use Rattle.search.specs.Floor.{beyond as beyondOf, at_least, floorOf, minFloor, maxFloor, maxFloors, rowFloor, Floors};
+ghost use Rattle.search.specs.Floor.{beyond as beyond_of, at_least, floor_of, min_floor, max_floor, max_floors, row_floor, Floors};
 
 use palette::Kind;
 
@@ -8,7 +8,7 @@ use palette::Kind;
 const MARGIN: f32 = 1.0 / 4194304.0;
 
 fn beyond(low: f32, high: f32, pixel: f32) -> f32
-    ensures { result ≡ beyondOf low high pixel }
+    ensures { result ≡ beyond_of low high pixel }
 {
     floats::pick(
         0.0 < low - pixel,
@@ -26,7 +26,7 @@ fn at_least(d: f32, pixel: f32) -> f32
 }
 
 fn sum(b: &[f32; 16], low: f32, high: f32) -> f32
-    ensures { result ≡ floorOf b.now low high }
+    ensures { result ≡ floor_of b.now low high }
 {
     let mut terms = [0.0f32; 16];
     for i in 0..16usize {
@@ -36,7 +36,7 @@ fn sum(b: &[f32; 16], low: f32, high: f32) -> f32
 }
 
 pub fn min_floor(b: &[f32; 16], min: u8) -> f32
-    ensures { result ≡ minFloor b.now min }
+    ensures { result ≡ min_floor b.now min }
 {
     sum(
         b,
@@ -46,7 +46,7 @@ pub fn min_floor(b: &[f32; 16], min: u8) -> f32
 }
 
 fn max_floor(b: &[f32; 16], max: u8) -> f32
-    ensures { result ≡ maxFloor b.now max }
+    ensures { result ≡ max_floor b.now max }
 {
     sum(
         b,
@@ -57,7 +57,7 @@ fn max_floor(b: &[f32; 16], max: u8) -> f32
 
 // Worked out once: each min asks for them again.
 pub fn max_floors(b: &[f32; 16]) -> [f32; 256]
-    ensures { result ≡ maxFloors b.now }
+    ensures { result ≡ max_floors b.now }
 {
     let mut floors = [0.0f32; 256];
     for max in 0..256usize {
@@ -68,7 +68,7 @@ pub fn max_floors(b: &[f32; 16]) -> [f32; 256]
 
 // A NaN is handed on: it is above nothing, and so passes nothing over.
 fn row_floor(b: &[f32; 16], low: f32, high: f32) -> f32
-    ensures { result ≡ rowFloor b.now low high }
+    ensures { result ≡ row_floor b.now low high }
 {
     let six = palette::first_row_error(Kind::Six, b, high, low);
     let four = palette::first_row_error(Kind::Four, b, low, high);
@@ -89,7 +89,7 @@ fn first_open(floors: &[f32; 256], held: f32, first: u32) -> usize
 
 // For the pairs of one min: the floors of their max, raised by what their first row adds.
 pub fn raised(b: &[f32; 16], floors: &[f32; 256], held: f32, min: u8, first: u32) -> [f32; 256]
-    requires { floors.now ≡ maxFloors b.now }
+    requires { floors.now ≡ max_floors b.now }
     ensures { Floors b.now min result }
 {
     let mut raised = *floors;

@@ -4,9 +4,9 @@ ghost use Rattle.std.specs.Float.{inf};
 ghost use Rattle.std.specs.Float.Ieee.{lt};
 ghost use Rattle.palette.specs.declared.Kind.{Kind as KindOf};
 ghost use Rattle.palette.specs.declared.Kind.TheVariants.{Six};
-ghost use Rattle.search.specs.Covered.{pairError};
-ghost use Rattle.search.specs.Floor.{maxFloors, Floors};
-ghost use Rattle.search.specs.Search.{modeTried, pairTried, maxesTried, minsTried, firstMax, searched};
+ghost use Rattle.search.specs.Covered.{pair_error};
+ghost use Rattle.search.specs.Floor.{max_floors, Floors};
+ghost use Rattle.search.specs.Search.{mode_tried, pair_tried, maxes_tried, mins_tried, first_max, searched};
 
 mod floor;
 
@@ -16,7 +16,7 @@ use floats::Pair;
 use palette::Kind;
 
 fn mode_tried(kind: Kind, b: &[f32; 16], best: Coded, e: EndPoints) -> Coded
-    ensures { result ≡ modeTried kind b.now best e }
+    ensures { result ≡ mode_tried kind b.now best e }
 {
     let error = palette::palette_error(kind, b, e.c0_f, e.c1_f);
     if error < best.error {
@@ -31,8 +31,8 @@ fn mode_tried(kind: Kind, b: &[f32; 16], best: Coded, e: EndPoints) -> Coded
 
 // Neither error of the pair is below the floor, so where what is held is not above it, nothing has to be tried.
 fn pair_tried(b: &[f32; 16], floor: f32, best: Coded, min: u8, max: u8) -> Coded
-    requires { (kind : KindOf) → lt (pairError kind b.now min max) floor ≡ false }
-    ensures { result ≡ pairTried b.now best min max }
+    requires { (kind : KindOf) → lt (pair_error kind b.now min max) floor ≡ false }
+    ensures { result ≡ pair_tried b.now best min max }
 {
     if floor >= best.error {
         return best;
@@ -44,7 +44,7 @@ fn pair_tried(b: &[f32; 16], floor: f32, best: Coded, min: u8, max: u8) -> Coded
 
 fn maxes_tried(b: &[f32; 16], floors: &[f32; 256], start: Coded, min: u8, first: u32) -> Coded
     requires { Floors b.now min floors.now × (min < first) × (first ≤ 256) }
-    ensures { result ≡ maxesTried b.now start min first (256 - first) }
+    ensures { result ≡ maxes_tried b.now start min first (256 - first) }
 {
     let mut best = start;
     for max in first..256u32 {
@@ -55,8 +55,8 @@ fn maxes_tried(b: &[f32; 16], floors: &[f32; 256], start: Coded, min: u8, first:
 }
 
 fn min_tried(b: &[f32; 16], floors: &[f32; 256], best: Coded, min: u8, first: u32) -> Coded
-    requires { (floors.now ≡ maxFloors b.now) × (min < first) × (first ≤ 256) }
-    ensures { result ≡ maxesTried b.now best min first (256 - first) }
+    requires { (floors.now ≡ max_floors b.now) × (min < first) × (first ≤ 256) }
+    ensures { result ≡ maxes_tried b.now best min first (256 - first) }
 {
     if floor::min_floor(b, min) >= best.error {
         return best;
@@ -67,7 +67,7 @@ fn min_tried(b: &[f32; 16], floors: &[f32; 256], best: Coded, min: u8, first: u3
 
 fn first_max(least: u32, min: u32) -> u32
     requires { (least < 256) × (min < 255) }
-    ensures { (result ≡ firstMax least min) × (min < result) × (result ≤ 256) }
+    ensures { (result ≡ first_max least min) × (min < result) × (result ≤ 256) }
 {
     if least < min + 1 {
         return min + 1;
@@ -76,8 +76,8 @@ fn first_max(least: u32, min: u32) -> u32
 }
 
 fn mins_tried(b: &[f32; 16], floors: &[f32; 256], least: u32, start: Coded, limit: u32) -> Coded
-    requires { (floors.now ≡ maxFloors b.now) × (least < 256) × (limit < 256) }
-    ensures { result ≡ minsTried b.now least start limit }
+    requires { (floors.now ≡ max_floors b.now) × (least < 256) × (limit < 256) }
+    ensures { result ≡ mins_tried b.now least start limit }
 {
     let mut best = start;
     for min in 0..limit {
@@ -89,7 +89,7 @@ fn mins_tried(b: &[f32; 16], floors: &[f32; 256], least: u32, start: Coded, limi
 // What the search starts from: just above the error of one pair that it tries, about as wide as the samples. A start at infinity leads to the same
 // answer, and holds for long what passes little over. The test alone makes sure that it is above; how far is only a matter of time.
 fn start_error(b: &[f32; 16], min: u8, max: u8) -> f32
-    ensures { (result ≡ inf false) ⊎ ((min < max) × (lt (pairError Six b.now min max) result ≡ true)) }
+    ensures { (result ≡ inf false) ⊎ ((min < max) × (lt (pair_error Six b.now min max) result ≡ true)) }
 {
     let e = EndPoints::new_inter6_unorm(max, min);
     let error = palette::palette_error(Kind::Six, b, e.c0_f, e.c1_f);

@@ -2,7 +2,7 @@
 ghost use Rattle.std.specs.Prelude.{◌≡◌, true, ◌<◌};
 ghost use Rattle.std.specs.Float.Ieee.{le};
 ghost use Rattle.floats.specs.Arithmetic.{f0, f1};
-ghost use Rattle.single.specs.Single.{uniform as uniformOf, nearerPalette, singleColor};
+ghost use Rattle.single.specs.Single.{uniform as uniform_of, nearer_palette, single_color};
 
 use coding::Coded;
 use end_points::EndPoints;
@@ -16,14 +16,14 @@ pub const BC4_EPSILON: f32 = 1.0 / 65536.0;
 // Callers hand on 0 or an index that a palette's `closest` answered.
 fn uniform(e: EndPoints, k: u8) -> u64
     requires { k < 8 }
-    ensures { result ≡ uniformOf e k }
+    ensures { result ≡ uniform_of e k }
 {
     e.with_indexes(IndexList::new_all(k))
 }
 
 // The more exact of the two palettes.
 fn nearer_palette(value: f32, snorm: bool) -> u64
-    ensures { result ≡ nearerPalette value snorm }
+    ensures { result ≡ nearer_palette value snorm }
 {
     let e6 = EndPoints::new_inter6(value, value, snorm);
     let e4 = EndPoints::new_inter4(value, value, snorm);
@@ -44,7 +44,7 @@ fn nearer_palette(value: f32, snorm: bool) -> u64
 // The value is the middle of two samples, which entry clamped.
 pub fn single_color(value: f32, snorm: bool, dither: bool) -> u64
     requires { (le f0 value ≡ true) × (le value f1 ≡ true) }
-    ensures { result ≡ singleColor value snorm dither }
+    ensures { result ≡ single_color value snorm dither }
 {
     let closest = EndPoints::new_closest(value, snorm);
     if floats::abs(closest.c0_f - value) < BC4_EPSILON {

@@ -4,8 +4,8 @@ use mathlib.Core.List.{List, [], ◌∷◌}
 use mathlib.Core.Logic.{◌⊎◌, inl, inr, ⊎_elim}
 use Prim.Native.Nat.{ℕ}
 use Rattle.station.specs.Editions.{Message, Held}
-use Rattle.station.specs.Histories.{startedAnew, arrived, Among, AllAmong, Orderly, Sized}
-use Rattle.station.proofs.Clears.{cleared-sized, cleared-entry}
+use Rattle.station.specs.Histories.{started_anew, arrived, Among, AllAmong, Orderly, Sized}
+use Rattle.station.proofs.Clears.{cleared_sized, cleared_entry}
 use Rattle.station.proofs.OneMore.{Kept, reworded, one_more}
 
 module _ (width height : ℕ) (base : ℕ → ℕ → ℕ) (step : Message → ℕ) (sent : List Message) (orderly : Orderly width height base step sent) (start : Held) where
@@ -21,13 +21,13 @@ module _ (width height : ℕ) (base : ℕ → ℕ → ℕ) (step : Message → �
       (run ms (one_more width height base step sent orderly start k m (all m (inl refl))) (λ n l. all n (inr l)))
 
   module _ (sized : Sized width height start) where
-    at-start : After (λ n. ⊥) (startedAnew start)
-    at-start = record {
-      were-sent = λ n t. absurd t;
-      sized = cleared-sized width height sized;
-      each = λ column row h l. inl (record { none = λ n t p. t; empty = cleared-entry width height sized column row h l; bytes = refl });
+    at_start : After (λ n. ⊥) (started_anew start)
+    at_start = record {
+      were_sent = λ n t. absurd t;
+      sized = cleared_sized width height sized;
+      each = λ column row h l. inl (record { none = λ n t p. t; empty = cleared_entry width height sized column row h l; bytes = refl });
     }
 
     module _ (ms : List Message) (all : AllAmong ms sent) where
-      pub kept : After (λ n. Among n ms) (arrived width height (startedAnew start) ms)
-      kept = reworded width height base step sent orderly start (λ n t. ⊎_elim (λ x. absurd x) (λ x. x) t) (λ n t. inr t) (run ms at-start all)
+      pub kept : After (λ n. Among n ms) (arrived width height (started_anew start) ms)
+      kept = reworded width height base step sent orderly start (λ n t. ⊎_elim (λ x. absurd x) (λ x. x) t) (λ n t. inr t) (run ms at_start all)

@@ -9,48 +9,48 @@ use native.Mathlib.Omega.{arith}
 use lib.ListN.{length, get_or}
 use lib.Seq.{ext_get_or}
 use borrow.Author.Tests.{eq-eqb, eqb-true, ne_eqb, lt-ltb, le-ltb}
-use Rattle.place.specs.Place.{bc4Size}
+use Rattle.place.specs.Place.{bc4_size}
 use Rattle.refusal.specs.declared.Refusal.TheVariants.{EditionReused, EditionOpposite}
 use Rattle.refusal.specs.Refusals.{first_of, answered}
 use Rattle.station.specs.declared.Received.{Received}
 use Rattle.station.specs.declared.Received.TheVariants.{Taken, Repeated, Replaced, Old, Refused as NotReceived}
-use Rattle.station.specs.Editions.{halfway, editionIn, ahead, alike}
-use Rattle.station.specs.Receiving.{editionChecks, becomes}
+use Rattle.station.specs.Editions.{halfway, edition_in, ahead, alike}
+use Rattle.station.specs.Receiving.{edition_checks, becomes}
 
 abbrev pub at_place : ℕ → ℕ → List ℕ → List ℕ → Received
-at_place entry edition bytes block = answered NotReceived (becomes entry edition) (first_of (editionChecks entry edition bytes block))
+at_place entry edition bytes block = answered NotReceived (becomes entry edition) (first_of (edition_checks entry edition bytes block))
 
 module _ (entry edition : ℕ) (bytes block : List ℕ) where
-  pub empty-takes : entry ≡ 0 → at_place entry edition bytes block ≡ Taken
+  pub empty_takes : entry ≡ 0 → at_place entry edition bytes block ≡ Taken
   unfolding first_of
-  empty-takes e = rw (eq-eqb entry 0 e)
+  empty_takes e = rw (eq-eqb entry 0 e)
 
   module _ (full : entry ≡ 0 → ⊥) where
-    pub equal-repeats : ahead edition (editionIn entry) ≡ 0 → alike bytes block bc4Size ≡ true → at_place entry edition bytes block ≡ Repeated
+    pub equal_repeats : ahead edition (edition_in entry) ≡ 0 → alike bytes block bc4_size ≡ true → at_place entry edition bytes block ≡ Repeated
     unfolding first_of
-    equal-repeats e same = rw (ne_eqb entry 0 full, e, same)
+    equal_repeats e same = rw (ne_eqb entry 0 full, e, same)
 
-    pub other-reused : ahead edition (editionIn entry) ≡ 0 → alike bytes block bc4Size ≡ false → at_place entry edition bytes block ≡ NotReceived EditionReused
+    pub other_reused : ahead edition (edition_in entry) ≡ 0 → alike bytes block bc4_size ≡ false → at_place entry edition bytes block ≡ NotReceived EditionReused
     unfolding first_of
-    other-reused e same = rw (ne_eqb entry 0 full, e, same)
+    other_reused e same = rw (ne_eqb entry 0 full, e, same)
 
-    pub newer-replaces : 0 < ahead edition (editionIn entry) → ahead edition (editionIn entry) < halfway → at_place entry edition bytes block ≡ Replaced
+    pub newer_replaces : 0 < ahead edition (edition_in entry) → ahead edition (edition_in entry) < halfway → at_place entry edition bytes block ≡ Replaced
     unfolding first_of
-    newer-replaces some less =
-        let no : ahead edition (editionIn entry) ≡ 0 → ⊥ = omega arith in
-        let less-than : ahead edition (editionIn entry) ≡ halfway → ⊥ = omega arith in
-        rw (ne_eqb entry 0 full, ne_eqb _ 0 no, ne_eqb _ halfway less-than, lt-ltb _ halfway less)
+    newer_replaces some less =
+        let no : ahead edition (edition_in entry) ≡ 0 → ⊥ = omega arith in
+        let less_than : ahead edition (edition_in entry) ≡ halfway → ⊥ = omega arith in
+        rw (ne_eqb entry 0 full, ne_eqb _ 0 no, ne_eqb _ halfway less_than, lt-ltb _ halfway less)
 
-    pub half-opposite : ahead edition (editionIn entry) ≡ halfway → at_place entry edition bytes block ≡ NotReceived EditionOpposite
+    pub half_opposite : ahead edition (edition_in entry) ≡ halfway → at_place entry edition bytes block ≡ NotReceived EditionOpposite
     unfolding first_of
-    half-opposite e = rw (ne_eqb entry 0 full, e)
+    half_opposite e = rw (ne_eqb entry 0 full, e)
 
-    pub older-stays : halfway < ahead edition (editionIn entry) → at_place entry edition bytes block ≡ Old
+    pub older_stays : halfway < ahead edition (edition_in entry) → at_place entry edition bytes block ≡ Old
     unfolding first_of
-    older-stays more =
-        let no : ahead edition (editionIn entry) ≡ 0 → ⊥ = omega arith in
-        let more-than : ahead edition (editionIn entry) ≡ halfway → ⊥ = omega arith in
-        rw (ne_eqb entry 0 full, ne_eqb _ 0 no, ne_eqb _ halfway more-than, le-ltb (ahead edition (editionIn entry)) halfway (omega arith))
+    older_stays more =
+        let no : ahead edition (edition_in entry) ≡ 0 → ⊥ = omega arith in
+        let more_than : ahead edition (edition_in entry) ≡ halfway → ⊥ = omega arith in
+        rw (ne_eqb entry 0 full, ne_eqb _ 0 no, ne_eqb _ halfway more_than, le-ltb (ahead edition (edition_in entry)) halfway (omega arith))
 
 -- ---- the same bytes
 pub alike_same : (bytes : List ℕ) (n : ℕ) → alike bytes bytes n ≡ true
@@ -62,12 +62,12 @@ both_true : (a b : Bool) → a && b ≡ true → (a ≡ true) × (b ≡ true)
 both_true true b e = (refl, e)
 both_true false b e = absurd (let z : ◌≡◌ {A = ℕ} 0 1 = cc in omega arith)
 
-alike-each : (xs ys : List ℕ) (n : ℕ) → alike xs ys n ≡ true → (i : ℕ) → i < n → get_or xs i 0 ≡ get_or ys i 0
+alike_each : (xs ys : List ℕ) (n : ℕ) → alike xs ys n ≡ true → (i : ℕ) → i < n → get_or xs i 0 ≡ get_or ys i 0
 unfolding alike
-alike-each xs ys zero e i h = absurd (omega arith)
-alike-each xs ys (suc n) e i h =
+alike_each xs ys zero e i h = absurd (omega arith)
+alike_each xs ys (suc n) e i h =
     let both = both_true (alike xs ys n) _ e in
-    dite (dec_lt i n) (λ l. alike-each xs ys n both.0 i l) (λ l. let last : i ≡ n = omega arith in rw last (eqb-true _ _ both.1))
+    dite (dec_lt i n) (λ l. alike_each xs ys n both.0 i l) (λ l. let last : i ≡ n = omega arith in rw last (eqb-true _ _ both.1))
 
-pub alike-equal : (xs ys : List ℕ) → length xs ≡ bc4Size → length ys ≡ bc4Size → alike xs ys bc4Size ≡ true → xs ≡ ys
-alike-equal xs ys p q e = ext_get_or 0 xs ys (p ∙ sym q) (λ i h. alike-each xs ys bc4Size e i (omega arith))
+pub alike_equal : (xs ys : List ℕ) → length xs ≡ bc4_size → length ys ≡ bc4_size → alike xs ys bc4_size ≡ true → xs ≡ ys
+alike_equal xs ys p q e = ext_get_or 0 xs ys (p ∙ sym q) (λ i h. alike_each xs ys bc4_size e i (omega arith))

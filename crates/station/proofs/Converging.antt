@@ -7,33 +7,33 @@ use native.Mathlib.Omega.{arith}
 use Rattle.place.specs.Place.{along}
 use Rattle.refusal.specs.declared.Checked.TheVariants.{Passed}
 use Rattle.station.specs.Editions.{Message, Held, entry_at, bytes_at, entry_of}
-use Rattle.station.specs.Receiving.{receiveAnswer, ofReceived}
-use Rattle.station.specs.Histories.{startedAnew, arrived, Among, AllAmong, For, SamePlace, Orderly, Newest, Holds, Sized}
-use Rattle.station.proofs.OneMore.{Kept, one-step, own}
+use Rattle.station.specs.Receiving.{receive_answer, of_received}
+use Rattle.station.specs.Histories.{started_anew, arrived, Among, AllAmong, For, SamePlace, Orderly, Newest, Holds, Sized}
+use Rattle.station.proofs.OneMore.{Kept, one_step, own}
 use Rattle.station.proofs.Arrivals.{kept}
-use Rattle.station.proofs.Whole.{same-tile, same-record, same-held}
+use Rattle.station.proofs.Whole.{same_tile, same_record, same_held}
 
 module _ (width height : ℕ) (base : ℕ → ℕ → ℕ) (step : Message → ℕ) (sent : List Message) (orderly : Orderly width height base step sent) (start : Held) (sized : Sized width height start) where
   abbrev at : List Message → Held
-  at ms = arrived width height (startedAnew start) ms
+  at ms = arrived width height (started_anew start) ms
 
   module _ (ms : List Message) (all : AllAmong ms sent) where
     abbrev so_far : Kept width height base step sent orderly start (λ n. Among n ms) (at ms)
     so_far = kept width height base step sent orderly start sized ms all
 
-    pub held-newest : (m : Message) → Newest (λ n. Among n ms) step m → Holds (at ms) width m
-    held-newest m newest = ⊎_elim
+    pub held_newest : (m : Message) → Newest (λ n. Among n ms) step m → Holds (at ms) width m
+    held_newest m newest = ⊎_elim
         (λ u. absurd (u.none m newest.one (refl, refl)))
         (λ f.
-        let no-newer = newest.none-newer f.m f.newest.one f.there in
-        let no-older = f.newest.none-newer m newest.one (sym f.there.0, sym f.there.1) in
-        let one = one-step width height base step sent orderly start f.m m (all f.m f.newest.one) (all m newest.one) f.there (omega arith) in
+        let no_newer = newest.none_newer f.m f.newest.one f.there in
+        let no_older = f.newest.none_newer m newest.one (sym f.there.0, sym f.there.1) in
+        let one = one_step width height base step sent orderly start f.m m (all f.m f.newest.one) (all m newest.one) f.there (omega arith) in
         record { bytes = (rw (f.there.0, f.there.1) at f.holds.bytes) ∙ one.1; entry = (rw (f.there.0, f.there.1) at f.holds.entry) ∙ ap entry_of one.0 })
         (so_far.each m.column m.row (orderly.across m (all m newest.one)) (orderly.down m (all m newest.one)))
 
     -- of those for a place one is the newest
-    pub some-newest : (m : Message) → Among m ms → (n : Message) × SamePlace n m × Newest (λ n. Among n ms) step n
-    some-newest m one = ⊎_elim
+    pub some_newest : (m : Message) → Among m ms → (n : Message) × SamePlace n m × Newest (λ n. Among n ms) step n
+    some_newest m one = ⊎_elim
         (λ u. absurd (u.none m one (refl, refl)))
         (λ f. (f.m, f.there, f.newest))
         (so_far.each m.column m.row (orderly.across m (all m one)) (orderly.down m (all m one)))
@@ -47,8 +47,8 @@ module _ (width height : ℕ) (base : ℕ → ℕ → ℕ) (step : Message → �
         (so_far.each column row h l)
 
     -- the next one is not refused
-    pub never-refused : (m : Message) → Among m sent → ofReceived (receiveAnswer (at ms) width height m) ≡ Passed
-    never-refused m was-sent = (own width height base step sent orderly start so_far m was-sent).0
+    pub never_refused : (m : Message) → Among m sent → of_received (receive_answer (at ms) width height m) ≡ Passed
+    never_refused m was_sent = (own width height base step sent orderly start so_far m was_sent).0
 
   -- Two lists of the same messages, whatever their order and however often each is there, end in the same bytes and the same record.
   pub any_order : (ms ns : List Message) → AllAmong ms sent → AllAmong ms ns → AllAmong ns ms → at ms ≡ at ns
@@ -60,9 +60,9 @@ module _ (width height : ℕ) (base : ℕ → ℕ → ℕ) (step : Message → �
       λ column row h g. ⊎_elim
       (λ u. let other = as_before ns also column row h g (λ m t p. u.none m (from m t) p) in (u.bytes ∙ sym other.0, u.empty ∙ sym other.1))
       (λ f.
-      let other = held-newest ns also f.m (record { one = to f.m f.newest.one; none-newer = λ n t p. f.newest.none-newer n (from n t) p }) in
+      let other = held_newest ns also f.m (record { one = to f.m f.newest.one; none_newer = λ n t p. f.newest.none_newer n (from n t) p }) in
       (rw (f.there.0, f.there.1) at (f.holds.bytes ∙ sym other.bytes), rw (f.there.0, f.there.1) at (f.holds.entry ∙ sym other.entry)))
       (k.each column row h g) in
-      same-held (at ms) (at ns)
-      (same-tile width height (at ms) (at ns) k.sized l.sized (λ column row h g. (each column row h g).0))
-      (same-record width height (at ms) (at ns) k.sized l.sized (λ column row h g. (each column row h g).1))
+      same_held (at ms) (at ns)
+      (same_tile width height (at ms) (at ns) k.sized l.sized (λ column row h g. (each column row h g).0))
+      (same_record width height (at ms) (at ns) k.sized l.sized (λ column row h g. (each column row h g).1))

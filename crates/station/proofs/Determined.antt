@@ -10,8 +10,8 @@ use Rattle.station.proofs.clear.Kinds as clear-kinds
 use Rattle.station.proofs.clear.Reads as clear
 
 -- the answer, every byte of the tile, and every entry of the record
-pub receive-determined : One-outcome 3 receive-kinds.ps receive-kinds.r receive.Post (Received × List ℕ × List ℕ) (λ κs x s. (x, s.0.now, s.1.0.now))
-receive-determined κs a x y s t p q = cc
+pub receive_determined : One-outcome 3 receive-kinds.ps receive-kinds.r receive.Post (Received × List ℕ × List ℕ) (λ κs x s. (x, s.0.now, s.1.0.now))
+receive_determined κs a x y s t p q = cc
 
-pub clear-determined : One-outcome 1 clear-kinds.ps clear-kinds.r clear.Post (List ℕ) (λ κs x s. s.0.now)
-clear-determined κs a x y s t p q = p ∙ sym q
+pub clear_determined : One-outcome 1 clear-kinds.ps clear-kinds.r clear.Post (List ℕ) (λ κs x s. s.0.now)
+clear_determined κs a x y s t p q = p ∙ sym q

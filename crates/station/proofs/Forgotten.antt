@@ -11,21 +11,21 @@ use Rattle.place.specs.Place.{along}
 use Rattle.refusal.specs.declared.Checked.{Checked}
 use Rattle.refusal.specs.declared.Checked.TheVariants.{Passed, Refused}
 use Rattle.refusal.specs.Refusals.{first_of, answered}
-use Rattle.refusal.proofs.Firsts.{first-append}
+use Rattle.refusal.proofs.Firsts.{first_append}
 use Rattle.station.specs.declared.Received.{Received}
 use Rattle.station.specs.declared.Received.TheVariants.{Refused as NotReceived}
 use Rattle.station.specs.Editions.{Message, Held, entry_at, bytes_at, is_empty}
-use Rattle.station.specs.Receiving.{editionChecks, fitChecks, heldChecks, becomes, receiveAnswer, changes}
-use Rattle.station.specs.Histories.{received, startedAnew, arrived, For, Sized}
+use Rattle.station.specs.Receiving.{edition_checks, fit_checks, held_checks, becomes, receive_answer, changes}
+use Rattle.station.specs.Histories.{received, started_anew, arrived, For, Sized}
 use Rattle.station.proofs.Room.{room}
-use Rattle.station.proofs.Messages.{still-sized, elsewhere, here, unchanged}
-use Rattle.station.proofs.OneMore.{for-place}
-use Rattle.station.proofs.Clears.{cleared-sized, cleared-entry}
+use Rattle.station.proofs.Messages.{still_sized, elsewhere, here, unchanged}
+use Rattle.station.proofs.OneMore.{for_place}
+use Rattle.station.proofs.Clears.{cleared_sized, cleared_entry}
 
 -- an empty place looks at no bytes
-empty-alike : (entry edition : ℕ) (xs ys block : List ℕ) → eqb entry 0 ≡ true → first_of (editionChecks entry edition xs block) ≡ first_of (editionChecks entry edition ys block)
+empty_alike : (entry edition : ℕ) (xs ys block : List ℕ) → eqb entry 0 ≡ true → first_of (edition_checks entry edition xs block) ≡ first_of (edition_checks entry edition ys block)
 unfolding first_of
-empty-alike entry edition xs ys block e = rw e
+empty_alike entry edition xs ys block e = rw e
 
 module _ (width height : ℕ) where
   -- one record, and the same bytes wherever it has an entry
@@ -40,30 +40,30 @@ module _ (width height : ℕ) where
     entry = entry_at h width m.column m.row
 
     abbrev shape : Checked
-    shape = first_of (fitChecks h width height m)
+    shape = first_of (fit_checks h width height m)
 
     -- what is answered, by the bytes at the place and by whether message, tile and record go together
     abbrev said : List ℕ → Checked → Received
-    said bytes c = answered NotReceived (becomes entry m.edition) (answered Refused (first_of (editionChecks entry m.edition bytes m.block)) c)
+    said bytes c = answered NotReceived (becomes entry m.edition) (answered Refused (first_of (edition_checks entry m.edition bytes m.block)) c)
 
-    one-said : (c : Checked) → shape ≡ c → (t : Bool) → is_empty entry ≡ t → said (bytes_at h width m.column m.row) c ≡ said (bytes_at g width m.column m.row) c
-    one-said (Refused q) p t e = refl
-    one-said Passed p true e =
-        ap (answered NotReceived (becomes entry m.edition)) (empty-alike entry m.edition (bytes_at h width m.column m.row) (bytes_at g width m.column m.row) m.block e)
-    one-said Passed p false e =
+    one_said : (c : Checked) → shape ≡ c → (t : Bool) → is_empty entry ≡ t → said (bytes_at h width m.column m.row) c ≡ said (bytes_at g width m.column m.row) c
+    one_said (Refused q) p t e = refl
+    one_said Passed p true e =
+        ap (answered NotReceived (becomes entry m.edition)) (empty_alike entry m.edition (bytes_at h width m.column m.row) (bytes_at g width m.column m.row) m.block e)
+    one_said Passed p false e =
         let r = room (length h.tile) (length h.editions) (length m.block) width height m.column m.row p in
         ap (λ (l : List ℕ). said l Passed) (agree.bytes m.column m.row r.across r.down (eqb-false entry 0 e))
 
-    in-turn : (x : Held) → receiveAnswer x width height m
-        ≡ answered NotReceived (becomes (entry_at x width m.column m.row) m.edition) (answered Refused (first_of (heldChecks x width m)) (first_of (fitChecks x width height m)))
-    in-turn x = ap (answered NotReceived (becomes (entry_at x width m.column m.row) m.edition)) (first-append (fitChecks x width height m) (heldChecks x width m))
+    in_turn : (x : Held) → receive_answer x width height m
+        ≡ answered NotReceived (becomes (entry_at x width m.column m.row) m.edition) (answered Refused (first_of (held_checks x width m)) (first_of (fit_checks x width height m)))
+    in_turn x = ap (answered NotReceived (becomes (entry_at x width m.column m.row) m.edition)) (first_append (fit_checks x width height m) (held_checks x width m))
 
-    pub same_answer : receiveAnswer h width height m ≡ receiveAnswer g width height m
+    pub same_answer : receive_answer h width height m ≡ receive_answer g width height m
     same_answer =
         let long : length g.tile ≡ length h.tile = agree.second.tile ∙ sym agree.first.tile in
-        rw (in-turn h, in-turn g, long, ← agree.records) (one-said shape refl (is_empty entry) refl)
+        rw (in_turn h, in_turn g, long, ← agree.records) (one_said shape refl (is_empty entry) refl)
 
-    changed : (column row : ℕ) → column < along width → row < along height → (t : Bool) → changes (receiveAnswer h width height m) ≡ t → For column row m
+    changed : (column row : ℕ) → column < along width → row < along height → (t : Bool) → changes (receive_answer h width height m) ≡ t → For column row m
         → (entry_at (received width height h m) width column row ≡ 0 → ⊥) → bytes_at (received width height h m) width column row ≡ bytes_at (received width height g m) width column row
     changed column row p q true e there full =
         let one = here h width height m e in
@@ -76,32 +76,32 @@ module _ (width height : ℕ) where
         ∙ agree.bytes column row p q (λ none. full (ap (λ (x : Held). entry_at x width column row) stays ∙ none))
         ∙ sym (ap (λ (x : Held). bytes_at x width column row) also)
 
-    pub still-agree : Agree (received width height h m) (received width height g m)
-    still-agree = record {
-      first = still-sized h width height m agree.first;
-      second = still-sized g width height m agree.second;
+    pub still_agree : Agree (received width height h m) (received width height g m)
+    still_agree = record {
+      first = still_sized h width height m agree.first;
+      second = still_sized g width height m agree.second;
       records = rw (same_answer, agree.records);
       bytes = λ column row p q full. ⊎_elim
-          (λ there. changed column row p q (changes (receiveAnswer h width height m)) refl there full)
+          (λ there. changed column row p q (changes (receive_answer h width height m)) refl there full)
           (λ other.
           let one = elsewhere h width height m column row p other in
           let two = elsewhere g width height m column row p other in
           one.0 ∙ agree.bytes column row p q (λ e. full (one.1 ∙ e)) ∙ sym two.0)
-          (for-place m column row);
+          (for_place m column row);
     }
 
   agree_on : (ms : List Message) {h g : Held} → Agree h g → Agree (arrived width height h ms) (arrived width height g ms)
   unfolding arrived
   agree_on [] a = a
-  agree_on (m ∷ ms) {h} {g} a = agree_on ms (still-agree h g a m)
+  agree_on (m ∷ ms) {h} {g} a = agree_on ms (still_agree h g a m)
 
-  at_clear : {h g : Held} → Sized width height h → Sized width height g → Agree (startedAnew h) (startedAnew g)
+  at_clear : {h g : Held} → Sized width height h → Sized width height g → Agree (started_anew h) (started_anew g)
   at_clear {h} {g} s t = record {
-    first = cleared-sized width height s;
-    second = cleared-sized width height t;
+    first = cleared_sized width height s;
+    second = cleared_sized width height t;
     records = ap (λ (n : ℕ). replicate n 0) (s.entries ∙ sym t.entries);
-    bytes = λ column row p q full. absurd (full (cleared-entry width height s column row p q));
+    bytes = λ column row p q full. absurd (full (cleared_entry width height s column row p q));
   }
 
-  pub forgotten : {h g : Held} → Sized width height h → Sized width height g → (ms : List Message) → Agree (arrived width height (startedAnew h) ms) (arrived width height (startedAnew g) ms)
+  pub forgotten : {h g : Held} → Sized width height h → Sized width height g → (ms : List Message) → Agree (arrived width height (started_anew h) ms) (arrived width height (started_anew g) ms)
   forgotten s t ms = agree_on ms (at_clear s t)

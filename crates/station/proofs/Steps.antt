@@ -2,7 +2,7 @@
 use mathlib.Core.Path.{◌≡◌}
 use Prim.Native.Nat.{ℕ, ◌+◌, ◌-◌, ◌%◌, ◌<◌, ◌≤◌}
 use native.Mathlib.Omega.{arith}
-use Rattle.station.specs.Editions.{wrap, halfway, editionIn, entry_of, ahead}
+use Rattle.station.specs.Editions.{wrap, halfway, edition_in, entry_of, ahead}
 
 -- k steps after base
 abbrev after : ℕ → ℕ → ℕ
@@ -18,5 +18,5 @@ pub older : (base h k : ℕ) → k < h → h ≤ 32767 → halfway < ahead (afte
 older base h k l m = omega arith
 
 -- an entry that was made of an edition is read as it
-pub entry_read : (base k : ℕ) → editionIn (entry_of (after base k)) ≡ after base k
+pub entry_read : (base k : ℕ) → edition_in (entry_of (after base k)) ≡ after base k
 entry_read base k = omega arith

@@ -1,6 +1,6 @@
 -- Document 02, 5/12: a message, what a station holds, and how its editions are read. An edition has 16 bits, and after 65,535 comes 0.
 use Rattle.std.specs.Prelude.{Bool, true, ◌&&◌, List, ℕ, zero, suc, ◌+◌, ◌-◌, ◌%◌, eqb, get_or, take, drop}
-use Rattle.place.specs.Place.{bc4Size, blockAt}
+use Rattle.place.specs.Place.{bc4_size, block_at}
 
 -- a block's place, an edition and eight bytes
 pub record Message : Type 0 where
@@ -21,15 +21,15 @@ abbrev pub holding : List ℕ → List ℕ → Held
 holding tile editions = record { tile = tile; editions = editions }
 
 -- an entry takes one place of the record, as a block takes eight of the tile
-abbrev pub entrySize : ℕ
-entrySize = 1
+abbrev pub entry_size : ℕ
+entry_size = 1
 
 -- ---- what is held at a place
 abbrev pub entry_at : Held → ℕ → ℕ → ℕ → ℕ
-entry_at held width column row = get_or held.editions (blockAt entrySize width column row) 0
+entry_at held width column row = get_or held.editions (block_at entry_size width column row) 0
 
 abbrev pub bytes_at : Held → ℕ → ℕ → ℕ → List ℕ
-bytes_at held width column row = take bc4Size (drop (blockAt bc4Size width column row) held.tile)
+bytes_at held width column row = take bc4_size (drop (block_at bc4_size width column row) held.tile)
 
 -- ---- entries: 0 is an empty place. Any other n is edition n - 1, taken modulo 65,536, so that every content of a record has a meaning.
 abbrev pub wrap : ℕ
@@ -41,8 +41,8 @@ halfway = 32768
 abbrev pub is_empty : ℕ → Bool
 is_empty entry = eqb entry 0
 
-abbrev pub editionIn : ℕ → ℕ
-editionIn entry = (entry - 1) % wrap
+abbrev pub edition_in : ℕ → ℕ
+edition_in entry = (entry - 1) % wrap
 
 abbrev pub entry_of : ℕ → ℕ
 entry_of edition = edition + 1

@@ -1,10 +1,10 @@
 // What a message's edition says at its place.
 ghost use Rattle.std.specs.Prelude.{◌≡◌, ◌<◌, length};
-ghost use Rattle.place.specs.Place.{bc4Size};
+ghost use Rattle.place.specs.Place.{bc4_size};
 ghost use Rattle.refusal.specs.Refusals.{first_of, answered};
 ghost use Rattle.station.specs.declared.Received.TheVariants.{Refused as NotReceived};
-ghost use Rattle.station.specs.Editions.{editionIn, entry_of, ahead as ahead_of, alike as alikeTo};
-ghost use Rattle.station.specs.Receiving.{editionChecks, becomes, changes as changesBy};
+ghost use Rattle.station.specs.Editions.{edition_in, entry_of, ahead as ahead_of, alike as alike_to};
+ghost use Rattle.station.specs.Receiving.{edition_checks, becomes, changes as changes_by};
 
 use crate::Received;
 use refusal::Refusal;
@@ -25,15 +25,15 @@ pub fn entry_of(edition: u16) -> u32
 // How far the edition is ahead of the one that an entry holds.
 fn ahead(edition: u16, entry: u32) -> u32
     requires { 0 < entry }
-    ensures { result ≡ ahead_of edition (editionIn entry) }
+    ensures { result ≡ ahead_of edition (edition_in entry) }
 {
     (edition as u32 + WRAP - (entry - 1) % WRAP) % WRAP
 }
 
 // Looks at all eight: without a way out of its loop they are compared at once.
 fn alike(held: &[u8], block: &[u8]) -> bool
-    requires { (length held.now ≡ bc4Size) × (length block.now ≡ bc4Size) }
-    ensures { result ≡ alikeTo held.now block.now bc4Size }
+    requires { (length held.now ≡ bc4_size) × (length block.now ≡ bc4_size) }
+    ensures { result ≡ alike_to held.now block.now bc4_size }
 {
     let mut same = true;
     for i in 0..place::BC4_SIZE {
@@ -44,8 +44,8 @@ fn alike(held: &[u8], block: &[u8]) -> bool
 
 // Of a message whose place has this entry and these bytes.
 pub fn answer(entry: u32, edition: u16, held: &[u8], block: &[u8]) -> Received
-    requires { (length held.now ≡ bc4Size) × (length block.now ≡ bc4Size) }
-    ensures { result ≡ answered NotReceived (becomes entry edition) (first_of (editionChecks entry edition held.now block.now)) }
+    requires { (length held.now ≡ bc4_size) × (length block.now ≡ bc4_size) }
+    ensures { result ≡ answered NotReceived (becomes entry edition) (first_of (edition_checks entry edition held.now block.now)) }
 {
     if entry == 0 {
         return Received::Taken;
@@ -68,7 +68,7 @@ pub fn answer(entry: u32, edition: u16, held: &[u8], block: &[u8]) -> Received
 
 // Whether what is held changes by a message with this answer.
 pub fn changes(answer: Received) -> bool
-    ensures { result ≡ changesBy answer }
+    ensures { result ≡ changes_by answer }
 {
     match answer {
         Received::Taken => true,

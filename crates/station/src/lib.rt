@@ -1,9 +1,9 @@
 // Document 02, 5/12: the receiving side. A message is a block's place, an edition and eight bytes; a station holds a tile and, beside it, a record of the
 // editions that stand in it: one entry for each block, 0 where the place is empty, else the edition and one more. Both are the caller's memory.
 ghost use Rattle.std.specs.Prelude.{◌≡◌, ◌+◌, ◌*◌, ◌<◌, ◌≤◌, length, set};
-ghost use Rattle.place.specs.Place.{longestSide, bc4Size};
+ghost use Rattle.place.specs.Place.{longest_side, bc4_size};
 ghost use Rattle.station.specs.Editions.{message, holding, entry_of};
-ghost use Rattle.station.specs.Receiving.{receiveAnswer, bytesPut, tileAfter, editionsAfter, cleared};
+ghost use Rattle.station.specs.Receiving.{receive_answer, bytes_put, tile_after, editions_after, cleared};
 
 mod editions;
 mod shape;
@@ -35,9 +35,9 @@ pub fn receive(
     edition: u16,
     block: &[u8],
 ) -> Received
-    ensures answer { result ≡ receiveAnswer (holding tile.old editions.old) width height (message column row edition block.now) }
-    ensures tile { tile.new ≡ tileAfter result tile.old width (message column row edition block.now) }
-    ensures editions { editions.new ≡ editionsAfter result editions.old width (message column row edition block.now) }
+    ensures answer { result ≡ receive_answer (holding tile.old editions.old) width height (message column row edition block.now) }
+    ensures tile { tile.new ≡ tile_after result tile.old width (message column row edition block.now) }
+    ensures editions { editions.new ≡ editions_after result editions.old width (message column row edition block.now) }
 {
     let checked = shape::message(
         tile.len(),
@@ -69,8 +69,8 @@ pub fn receive(
 
 // A message's bytes and its edition, where its place has them.
 fn put(tile: &mut [u8], editions: &mut [u32], at: usize, entry: usize, edition: u16, block: &[u8])
-    requires { (length block.now ≡ bc4Size) × (at + bc4Size ≤ length tile.old) × (length tile.old ≤ longestSide * longestSide) × (entry < length editions.old) }
-    ensures tile { tile.new ≡ bytesPut tile.old at block.now }
+    requires { (length block.now ≡ bc4_size) × (at + bc4_size ≤ length tile.old) × (length tile.old ≤ longest_side * longest_side) × (entry < length editions.old) }
+    ensures tile { tile.new ≡ bytes_put tile.old at block.now }
     ensures editions { editions.new ≡ set editions.old entry (entry_of edition) }
 {
     bytes::copy(block, &mut tile[at..at + place::BC4_SIZE]);

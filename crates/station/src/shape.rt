@@ -1,7 +1,7 @@
 // Whether a message, a tile and a record go together.
 ghost use Rattle.std.specs.Prelude.{◌≡◌};
 ghost use Rattle.refusal.specs.Refusals.{first_of};
-ghost use Rattle.station.specs.Receiving.{shapeChecks};
+ghost use Rattle.station.specs.Receiving.{shape_checks};
 
 use crate::editions;
 use refusal::{Checked, Refusal};
@@ -16,7 +16,7 @@ pub fn message(
     column: usize,
     row: usize,
 ) -> Checked
-    ensures { result ≡ first_of (shapeChecks long entries count width height column row) }
+    ensures { result ≡ first_of (shape_checks long entries count width height column row) }
 {
     let checked = refusal::tile_bytes(long, width, height);
     match checked {

@@ -1,8 +1,8 @@
 // A tile of samples, encoded block by block into the bytes that the caller lends, and a block's part of such bytes. A block has one channel in eight bytes
 // or two in sixteen: `size` is its bytes. Refusals are the caller's: what it checks is asked for here.
 ghost use Rattle.std.specs.Prelude.{◌≡◌, false, ◌++◌, ◌+◌, ◌*◌, ◌<◌, ◌≤◌, length, take, drop};
-ghost use Rattle.place.specs.Place.{longestSide, badSize, along, bc4Size, bc5Size, encodedLength, blockAt, joined, all_bytes};
-ghost use Rattle.tile.specs.Tile.{blockBytes, pairBytes, tileBytes, blockIn, laidIn, channelBlock};
+ghost use Rattle.place.specs.Place.{longest_side, bad_size, along, bc4_size, bc5_size, encoded_length, block_at, joined, all_bytes};
+ghost use Rattle.tile.specs.Tile.{block_bytes, pair_bytes, tile_bytes, block_in, laid_in, channel_block};
 
 use options::Options;
 
@@ -16,8 +16,8 @@ fn encode_half(
     start: usize,
     block: &mut [u8],
 )
-    requires { (column < along width) × (4 * (row + 1) * width ≤ length samples.now) × (start + bc4Size ≤ length block.old) × (length block.old ≤ bc5Size) }
-    ensures { block.new ≡ laidIn block.old start (blockBytes samples.now width o column row) }
+    requires { (column < along width) × (4 * (row + 1) * width ≤ length samples.now) × (start + bc4_size ≤ length block.old) × (length block.old ≤ bc5_size) }
+    ensures { block.new ≡ laid_in block.old start (block_bytes samples.now width o column row) }
 {
     let b = place::gather(samples, width, column, row);
     let e = index_list::bytes(encode::compress_bc4_block(&b, o));
@@ -34,8 +34,8 @@ fn encode_stretch(
     o: Options,
     out: &mut [u8],
 )
-    requires { (size ≤ bc5Size) × (start + bc4Size ≤ size) × (width ≤ longestSide) × (4 * (row + 1) * width ≤ length samples.now) × (length out.old ≡ along width * size) }
-    ensures { out.new ≡ joined (λ column. laidIn (blockIn out.old size (column * size)) start (blockBytes samples.now width o column row)) (along width) }
+    requires { (size ≤ bc5_size) × (start + bc4_size ≤ size) × (width ≤ longest_side) × (4 * (row + 1) * width ≤ length samples.now) × (length out.old ≡ along width * size) }
+    ensures { out.new ≡ joined (λ column. laid_in (block_in out.old size (column * size)) start (block_bytes samples.now width o column row)) (along width) }
 {
     for column in 0..width / 4 {
         let at = place::block_at(size, width, column, 0);
@@ -61,8 +61,8 @@ fn encode_channel(
     o: Options,
     out: &mut [u8],
 )
-    requires { (size ≤ bc5Size) × (start + bc4Size ≤ size) × (badSize width height ≡ false) × (length samples.now ≡ width * height) × (encodedLength size width height ≤ length out.old) }
-    ensures { out.new ≡ all_bytes (channelBlock samples.now size start width o out.old) width height ++ drop (encodedLength size width height) out.old }
+    requires { (size ≤ bc5_size) × (start + bc4_size ≤ size) × (bad_size width height ≡ false) × (length samples.now ≡ width * height) × (encoded_length size width height ≤ length out.old) }
+    ensures { out.new ≡ all_bytes (channel_block samples.now size start width o out.old) width height ++ drop (encoded_length size width height) out.old }
 {
     for row in 0..height / 4 {
         let at = place::block_at(size, width, 0, row);
@@ -73,8 +73,8 @@ fn encode_channel(
 
 // Blocks of one channel.
 pub fn encode_rows(samples: &[f32], width: usize, height: usize, o: Options, out: &mut [u8])
-    requires { (badSize width height ≡ false) × (length samples.now ≡ width * height) × (encodedLength bc4Size width height ≤ length out.old) }
-    ensures { out.new ≡ tileBytes samples.now width height o ++ drop (encodedLength bc4Size width height) out.old }
+    requires { (bad_size width height ≡ false) × (length samples.now ≡ width * height) × (encoded_length bc4_size width height ≤ length out.old) }
+    ensures { out.new ≡ tile_bytes samples.now width height o ++ drop (encoded_length bc4_size width height) out.old }
 {
     encode_channel(samples, place::BC4_SIZE, 0, width, height, o, out);
 }
@@ -88,8 +88,8 @@ pub fn encode_pairs(
     o: Options,
     out: &mut [u8],
 )
-    requires { (badSize width height ≡ false) × (length first.now ≡ width * height) × (length second.now ≡ width * height) × (encodedLength bc5Size width height ≤ length out.old) }
-    ensures { out.new ≡ all_bytes (pairBytes first.now second.now width o) width height ++ drop (encodedLength bc5Size width height) out.old }
+    requires { (bad_size width height ≡ false) × (length first.now ≡ width * height) × (length second.now ≡ width * height) × (encoded_length bc5_size width height ≤ length out.old) }
+    ensures { out.new ≡ all_bytes (pair_bytes first.now second.now width o) width height ++ drop (encoded_length bc5_size width height) out.old }
 {
     encode_channel(first, place::BC5_SIZE, 0, width, height, o, out);
     encode_channel(
@@ -105,8 +105,8 @@ pub fn encode_pairs(
 
 // The bytes of one block: that part of a tile's.
 pub fn block_part(size: usize, tile: &[u8], width: usize, column: usize, row: usize) -> &[u8]
-    requires { (row * along width + column ≤ longestSide * longestSide) × (blockAt size width column row + size ≤ length tile.now) × (length tile.now ≤ longestSide * longestSide) }
-    ensures { result.now ≡ take size (drop (blockAt size width column row) tile.now) }
+    requires { (row * along width + column ≤ longest_side * longest_side) × (block_at size width column row + size ≤ length tile.now) × (length tile.now ≤ longest_side * longest_side) }
+    ensures { result.now ≡ take size (drop (block_at size width column row) tile.now) }
 {
     let at = place::block_at(size, width, column, row);
     &tile[at..at + size]

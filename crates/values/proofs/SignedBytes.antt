@@ -3,7 +3,7 @@ use Rattle.std.proofs.Common.{◌≡◌, ℕ, zero, suc, ◌+◌, ◌-◌, ◌%�
 use lib.Signed.{lt_z}
 use mir.ValLaws.{to_z_pos}
 use Rattle.floats.proofs.Tests.{iff}
-use Rattle.values.specs.Values.{steps, fromNorm, levelByte, signed_of, byteBelow}
+use Rattle.values.specs.Values.{steps, from_norm, level_byte, signed_of, byte_below}
 
 pub signed_low : (b : ℕ) → b < 128 → signed_of b ≡ pos b
 signed_low b h = simp (lt-ltb b 128 h)
@@ -16,8 +16,8 @@ minus_one : (n : ℕ) → negsuc 0 -ℤ pos n ≡ negsuc n
 minus_one zero = refl
 minus_one (suc n) = ap (λ (k : ℕ). negsuc (suc k)) (omega arith)
 
-pub high-steps : (b : ℕ) → 128 ≤ b → negsuc 0 -ℤ to_z w8 (255 - b) ≡ negsuc (255 - b)
-high-steps b h = ap (λ (z : ℤ). negsuc 0 -ℤ z) (to_z_pos w8 (255 - b) (omega arith)) ∙ minus_one (255 - b)
+pub high_steps : (b : ℕ) → 128 ≤ b → negsuc 0 -ℤ to_z w8 (255 - b) ≡ negsuc (255 - b)
+high_steps b h = ap (λ (z : ℤ). negsuc 0 -ℤ z) (to_z_pos w8 (255 - b) (omega arith)) ∙ minus_one (255 - b)
 
 -- the test b < 128 with what it says, either way
 data Half (b : ℕ) : Bool → Type 0 where
@@ -31,8 +31,8 @@ half b = go (ltb b 128) (ltb→lt b 128) (nltb→le b 128)
     go true k l = low (k tt)
     go false k l = high (l tt)
 
-pub signed-fits : (b : ℕ) → b < 256 → SFits w8 (signed_of b)
-signed-fits b B = go (ltb b 128) (half b)
+pub signed_fits : (b : ℕ) → b < 256 → SFits w8 (signed_of b)
+signed_fits b B = go (ltb b 128) (half b)
   where
     go : (t : Bool) → Half b t → SFits w8 (cond t (pos b) (negsuc (255 - b)))
     go true (low h) = record { sfits = h }
@@ -42,8 +42,8 @@ same_tests : (a b c d : ℕ) → (a < b → c < d) → (c < d → a < b) → ltb
 same_tests a b c d f g = iff _ _ (λ t. lt→ltb c d (f (ltb→lt a b t))) (λ t. lt→ltb a b (g (ltb→lt c d t)))
 
 -- signed order is that of the bytes moved by 128
-pub signed-order : (b c : ℕ) → b < 256 → c < 256 → lt_z (signed_of b) (signed_of c) ≡ ltb ((b + 128) % 256) ((c + 128) % 256)
-signed-order b c B C = go (ltb b 128) (half b) (ltb c 128) (half c)
+pub signed_order : (b c : ℕ) → b < 256 → c < 256 → lt_z (signed_of b) (signed_of c) ≡ ltb ((b + 128) % 256) ((c + 128) % 256)
+signed_order b c B C = go (ltb b 128) (half b) (ltb c 128) (half c)
   where
     go : (t : Bool) → Half b t → (u : Bool) → Half c u → lt_z (cond t (pos b) (negsuc (255 - b))) (cond u (pos c) (negsuc (255 - c))) ≡ ltb ((b + 128) % 256) ((c + 128) % 256)
     go true (low h) true (low k) = same_tests b c ((b + 128) % 256) ((c + 128) % 256) (λ x. omega arith) (λ x. omega arith)
@@ -52,14 +52,14 @@ signed-order b c B C = go (ltb b 128) (half b) (ltb c 128) (half c)
     go false (high h) false (high k) = same_tests (255 - c) (255 - b) ((b + 128) % 256) ((c + 128) % 256) (λ x. omega arith) (λ x. omega arith)
 
 -- the bytes of two levels are in the levels' order
-pub level-order : (snorm : Bool) (m n : ℕ) → m < n → n ≤ steps snorm → byteBelow (levelByte m snorm) (levelByte n snorm) snorm ≡ true
-level-order true m n h k = signed-order (fromNorm m) (fromNorm n) (omega arith) (omega arith) ∙ lt-ltb ((fromNorm m + 128) % 256) ((fromNorm n + 128) % 256) (omega arith)
-level-order false m n h k = lt-ltb m n h
+pub level_order : (snorm : Bool) (m n : ℕ) → m < n → n ≤ steps snorm → byte_below (level_byte m snorm) (level_byte n snorm) snorm ≡ true
+level_order true m n h k = signed_order (from_norm m) (from_norm n) (omega arith) (omega arith) ∙ lt-ltb ((from_norm m + 128) % 256) ((from_norm n + 128) % 256) (omega arith)
+level_order false m n h k = lt-ltb m n h
 
 -- of two bytes not each is below the other
-ltb-asym : (a b : ℕ) → ltb a b ≡ true → ltb b a ≡ false
-ltb-asym a b h = le-ltb b a (omega (arith, ltb-true a b h))
+ltb_asym : (a b : ℕ) → ltb a b ≡ true → ltb b a ≡ false
+ltb_asym a b h = le-ltb b a (omega (arith, ltb-true a b h))
 
-pub byteBelow-asym : (snorm : Bool) (b c : ℕ) → b < 256 → c < 256 → byteBelow b c snorm ≡ true → byteBelow c b snorm ≡ false
-byteBelow-asym true b c B C h = signed-order c b C B ∙ ltb-asym ((b + 128) % 256) ((c + 128) % 256) (sym (signed-order b c B C) ∙ h)
-byteBelow-asym false b c B C h = ltb-asym b c h
+pub byte_below_asym : (snorm : Bool) (b c : ℕ) → b < 256 → c < 256 → byte_below b c snorm ≡ true → byte_below c b snorm ≡ false
+byte_below_asym true b c B C h = signed_order c b C B ∙ ltb_asym ((b + 128) % 256) ((c + 128) % 256) (sym (signed_order b c B C) ∙ h)
+byte_below_asym false b c B C h = ltb_asym b c h

@@ -9,31 +9,31 @@ abbrev pub steps : Bool → ℕ
 steps snorm = cond snorm 254 255
 
 -- s8::norm, the level of a signed byte
-abbrev pub normOf : ℕ → ℕ
-normOf b = (b + 128) % 256 - 1
+abbrev pub norm_of : ℕ → ℕ
+norm_of b = (b + 128) % 256 - 1
 
 -- s8::from_norm, the signed byte of a level: add 1, then subtract 128 wrapping at a byte
-abbrev pub fromNorm : ℕ → ℕ
-fromNorm n = (n + 1 + (256 - 128)) % 256
+abbrev pub from_norm : ℕ → ℕ
+from_norm n = (n + 1 + (256 - 128)) % 256
 
-abbrev pub levelOf : ℕ → Bool → ℕ
-levelOf b snorm = cond snorm (normOf b) b
+abbrev pub level_of : ℕ → Bool → ℕ
+level_of b snorm = cond snorm (norm_of b) b
 
-abbrev pub levelByte : ℕ → Bool → ℕ
-levelByte n snorm = cond snorm (fromNorm n) n
+abbrev pub level_byte : ℕ → Bool → ℕ
+level_byte n snorm = cond snorm (from_norm n) n
 
 -- a level as f32: the fraction rounded once
-unfoldable pub levelValue : ℕ → Bool → Float
-levelValue n snorm = whole n ⊘ whole (steps snorm)
+unfoldable pub level_value : ℕ → Bool → Float
+level_value n snorm = whole n ⊘ whole (steps snorm)
 
 -- n8::f32 and s8::uf32
 abbrev pub value_of : ℕ → Bool → Float
-value_of b snorm = levelValue (levelOf b snorm) snorm
+value_of b snorm = level_value (level_of b snorm) snorm
 
 -- a byte as a signed number, Rust's `b as i8`
 abbrev pub signed_of : ℕ → ℤ
 signed_of b = cond (nat_lt b 128) (pos b) (negsuc (255 - b))
 
 -- Order is compared on the bytes as written, signed for snorm: whether a is below b.
-abbrev pub byteBelow : ℕ → ℕ → Bool → Bool
-byteBelow a b snorm = cond snorm (int_lt (signed_of a) (signed_of b)) (nat_lt a b)
+abbrev pub byte_below : ℕ → ℕ → Bool → Bool
+byte_below a b snorm = cond snorm (int_lt (signed_of a) (signed_of b)) (nat_lt a b)

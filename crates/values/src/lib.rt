@@ -1,6 +1,6 @@
 // formats.rs: the one-byte value functions, and what both formats share.
 ghost use Rattle.std.specs.Prelude.{◌≡◌, ◌≤◌};
-ghost use Rattle.values.specs.Values.{steps as steps_of, levelByte, levelValue, value_of, byteBelow};
+ghost use Rattle.values.specs.Values.{steps as steps_of, level_byte, level_value, value_of, byte_below};
 
 pub mod n8;
 pub mod s8;
@@ -15,13 +15,13 @@ pub fn steps(snorm: bool) -> u8
 // The byte of a level. Callers have the level from a rounding into the format, or it is 0.
 pub fn level_byte(level: u8, snorm: bool) -> u8
     requires { level ≤ steps_of snorm }
-    ensures { result ≡ levelByte level snorm }
+    ensures { result ≡ level_byte level snorm }
 {
     if snorm { s8::from_norm(level) } else { level }
 }
 
 pub fn level_value(level: u8, snorm: bool) -> f32
-    ensures { result ≡ levelValue level snorm }
+    ensures { result ≡ level_value level snorm }
 {
     if snorm {
         s8::norm_f32(level)
@@ -39,7 +39,7 @@ pub fn value(b: u8, snorm: bool) -> f32
 
 // Order is compared on the bytes as written, signed for snorm: whether a is below b.
 pub fn byte_below(a: u8, b: u8, snorm: bool) -> bool
-    ensures { result ≡ byteBelow a b snorm }
+    ensures { result ≡ byte_below a b snorm }
 {
     if snorm {
         return s8::as_i8(a) < s8::as_i8(b);

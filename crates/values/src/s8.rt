@@ -1,5 +1,5 @@
 ghost use Rattle.std.specs.Prelude.{◌≡◌, ◌≤◌, true};
-ghost use Rattle.values.specs.Values.{normOf, fromNorm, levelValue, value_of, signed_of};
+ghost use Rattle.values.specs.Values.{norm_of, from_norm, level_value, value_of, signed_of};
 
 const K0: f32 = 31.0;
 
@@ -7,7 +7,7 @@ const K1: f32 = 1.0 / (254.0 * K0);
 
 // Brings it in the range 0 to 254.
 pub fn norm(x: u8) -> u8
-    ensures { result ≡ normOf x }
+    ensures { result ≡ norm_of x }
 {
     let y = std::num::wrapping_add_u8(x, 128);
     if y == 0 { 0 } else { y - 1 }
@@ -15,7 +15,7 @@ pub fn norm(x: u8) -> u8
 
 // The end of uf32, which has a level already.
 pub fn norm_f32(n: u8) -> f32
-    ensures { result ≡ levelValue n true }
+    ensures { result ≡ level_value n true }
 {
     (n as f32 * K0) * K1
 }
@@ -30,7 +30,7 @@ pub fn uf32(x: u8) -> f32
 // From 0 to 254, which is what every caller has: a level of the signed format.
 pub fn from_norm(x: u8) -> u8
     requires { x ≤ 254 }
-    ensures { result ≡ fromNorm x }
+    ensures { result ≡ from_norm x }
 {
     std::num::wrapping_sub_u8(x + 1, 128)
 }

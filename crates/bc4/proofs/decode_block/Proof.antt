@@ -1,5 +1,5 @@
 use mathlib.Core.Path.{refl}
-use Rattle.refusal.proofs.Firsts.{passed-clear, same_of}
+use Rattle.refusal.proofs.Firsts.{passed_clear, same_of}
 use borrow.Author.Rules.{rules}
 use Rattle.bc4.proofs.decode_block.Statement.{statement}
 use Rattle.bc4.proofs.decode_block.Tie as tie
@@ -14,7 +14,7 @@ enum_told : tie.Need-enum-told
 enum_told c = search rules
 
 from-bytes-requires : tie.Need-from-bytes-requires
-from-bytes-requires c κs = same_of _ _ (passed-clear _ c.before.before.decode.ensures c.enum_told.given.1).0
+from-bytes-requires c κs = same_of _ _ (passed_clear _ c.before.before.decode.ensures c.enum_told.given.1).0
 
 decode-into-requires : tie.Need-decode-into-requires
 decode-into-requires c κs = search rules

@@ -1,4 +1,4 @@
-use Rattle.refusal.proofs.Firsts.{passed-clear, same_of}
+use Rattle.refusal.proofs.Firsts.{passed_clear, same_of}
 use borrow.Author.Rules.{rules}
 use Rattle.bc4.proofs.encode_block.Statement.{statement}
 use Rattle.bc4.proofs.encode_block.Tie as tie
@@ -13,7 +13,7 @@ enum_told : tie.Need-enum-told
 enum_told c = search rules
 
 sixteen-requires : tie.Need-sixteen-requires
-sixteen-requires c κs = same_of _ _ (passed-clear _ c.before.before.encode.ensures c.enum_told.given.1).0
+sixteen-requires c κs = same_of _ _ (passed_clear _ c.before.before.encode.ensures c.enum_told.given.1).0
 
 compress-bc4-block-requires : tie.Need-compress-bc4-block-requires
 compress-bc4-block-requires c κs = search rules

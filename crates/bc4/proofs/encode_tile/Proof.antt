@@ -2,7 +2,7 @@ use mathlib.Core.Path.{refl, sym, ◌∙◌}
 use lib.ListN.{length}
 use borrow.Author.Rules.{rules}
 use Rattle.place.proofs.Places.{size_small}
-use Rattle.refusal.proofs.Tiles.{Samples, tile-passed}
+use Rattle.refusal.proofs.Tiles.{Samples, tile_passed}
 use Rattle.bc4.proofs.encode_tile.Statement.{statement}
 use Rattle.bc4.proofs.encode_tile.Tie as tie
 
@@ -16,7 +16,7 @@ enum_told : tie.Need-enum-told
 enum_told c = search rules
 
 accepted : (t : tie.After-enum-told) → let a = t.before.before.before.before.before.args in Samples a.samples.now a.width a.height (length a.out.now)
-accepted t = let a = t.before.before.before.before.before.args in tile-passed a.samples.now a.width a.height (length a.out.now) (sym t.before.before.tile.ensures ∙ t.enum_told.given.1)
+accepted t = let a = t.before.before.before.before.before.args in tile_passed a.samples.now a.width a.height (length a.out.now) (sym t.before.before.tile.ensures ∙ t.enum_told.given.1)
 
 encode-rows-requires : tie.Need-encode-rows-requires
 encode-rows-requires c κs = let a = accepted c.before in (a.good, a.count, a.room)

@@ -1,4 +1,4 @@
-use Rattle.refusal.proofs.Firsts.{passed-clear, same_of}
+use Rattle.refusal.proofs.Firsts.{passed_clear, same_of}
 use borrow.Author.Rules.{rules}
 use Rattle.bc4.proofs.resend.Statement.{statement}
 use Rattle.bc4.proofs.resend.Tie as tie
@@ -13,10 +13,10 @@ enum_told : tie.Need-enum-told
 enum_told c = search rules
 
 sixteen-requires : tie.Need-sixteen-requires
-sixteen-requires c κs = same_of _ _ (passed-clear _ c.before.before.resend.ensures c.enum_told.given.1).0
+sixteen-requires c κs = same_of _ _ (passed_clear _ c.before.before.resend.ensures c.enum_told.given.1).0
 
 from-bytes-requires : tie.Need-from-bytes-requires
-from-bytes-requires c κs = same_of _ _ (passed-clear _ c.before.before.before.before.resend.ensures c.before.before.enum_told.given.1).1.0
+from-bytes-requires c κs = same_of _ _ (passed_clear _ c.before.before.before.before.resend.ensures c.before.before.enum_told.given.1).1.0
 
 better-requires : tie.Need-better-requires
 better-requires c κs = search rules

@@ -1,6 +1,6 @@
 use mathlib.Core.Path.{sym, ◌∙◌}
 use native.Mathlib.Omega.{arith}
-use Rattle.refusal.proofs.Views.{view-room}
+use Rattle.refusal.proofs.Views.{view_room}
 use borrow.Author.Rules.{rules}
 use Rattle.bc5.proofs.block_view.Statement.{statement}
 use Rattle.bc5.proofs.block_view.Tie as tie
@@ -26,7 +26,7 @@ enum-told-2 c = search rules
 block-part-requires : tie.Need-block-part-requires
 block-part-requires c κs =
     let a = c.before.before.before.before.args in
-    view-room (omega arith) a.tile.now a.width a.height a.column a.row (sym c.before.before.view-refusal.ensures ∙ c.enum-told2.given.1)
+    view_room (omega arith) a.tile.now a.width a.height a.column a.row (sym c.before.before.view-refusal.ensures ∙ c.enum-told2.given.1)
 
 returns : tie.Need-returns
 returns c = rw (← c.before.before.before.view-refusal.ensures, c.before.enum_told.given.1)

@@ -1,7 +1,7 @@
 use mathlib.Core.Path.{◌≡◌, refl}
 use lib.ListN.{length}
-use Rattle.place.specs.Place.{bc5Size}
-use Rattle.refusal.proofs.Firsts.{passed-clear, same_of}
+use Rattle.place.specs.Place.{bc5_size}
+use Rattle.refusal.proofs.Firsts.{passed_clear, same_of}
 use borrow.Author.Rules.{rules}
 use Rattle.bc5.proofs.decode_block.Statement.{statement}
 use Rattle.bc5.proofs.decode_block.Tie as tie
@@ -21,8 +21,8 @@ sub-from-bytes c = search rules
 part-from-bytes-start : tie.Need-slice-bounds-from-bytes-start
 part-from-bytes-start c = search rules
 
-long : (t : tie.After-enum-told) → length t.before.before.before.before.args.encoded.now ≡ bc5Size
-long t = same_of _ _ (passed-clear _ t.before.before.decode.ensures t.enum_told.given.1).0
+long : (t : tie.After-enum-told) → length t.before.before.before.before.args.encoded.now ≡ bc5_size
+long t = same_of _ _ (passed_clear _ t.before.before.decode.ensures t.enum_told.given.1).0
 
 part-from-bytes-end : tie.Need-slice-bounds-from-bytes-end
 part-from-bytes-end c = let l = long c in search rules

@@ -1,8 +1,8 @@
 use mathlib.Core.Path.{sym, ◌∙◌}
 use native.Mathlib.Omega.{arith}
-use Rattle.place.proofs.Samples.{blockOf-whole}
-use Rattle.bc5.specs.Checks.{nanChecks}
-use Rattle.bc5.proofs.Counts.{BothSixteen, both-sixteen}
+use Rattle.place.proofs.Samples.{block_of_whole}
+use Rattle.bc5.specs.Checks.{nan_checks}
+use Rattle.bc5.proofs.Counts.{BothSixteen, both_sixteen}
 use borrow.Author.Rules.{rules}
 use Rattle.bc5.proofs.encode_block.Statement.{statement}
 use Rattle.bc5.proofs.encode_block.Tie as tie
@@ -17,7 +17,7 @@ enum_told : tie.Need-enum-told
 enum_told c = search rules
 
 sixteen : (t : tie.After-enum-told) → let a = t.before.before.before.before.before.args in BothSixteen a.first.now a.second.now
-sixteen t = let a = t.before.before.before.before.before.args in both-sixteen a.first.now a.second.now (nanChecks a.first.now a.second.now) (sym t.before.before.encode.ensures ∙ t.enum_told.given.1)
+sixteen t = let a = t.before.before.before.before.before.args in both_sixteen a.first.now a.second.now (nan_checks a.first.now a.second.now) (sym t.before.before.encode.ensures ∙ t.enum_told.given.1)
 
 gather-requires : tie.Need-gather-requires
 gather-requires c κs = let both = sixteen c in (search rules, omega arith)
@@ -38,7 +38,7 @@ returns-2 : tie.Need-returns-2
 returns-2 c =
     let t = c.before.before.before.before.before.before in
     let both = sixteen t in
-    rw (← t.before.before.encode.ensures, t.enum_told.given.1, c.before.before.compress-bc4-block.ensures, c.compress-bc4-block2.ensures, c.before.before.before.before.before.gather.ensures, c.before.before.before.before.gather2.ensures, blockOf-whole _ both.0, blockOf-whole _ both.1)
+    rw (← t.before.before.encode.ensures, t.enum_told.given.1, c.before.before.compress-bc4-block.ensures, c.compress-bc4-block2.ensures, c.before.before.before.before.before.gather.ensures, c.before.before.before.before.gather2.ensures, block_of_whole _ both.0, block_of_whole _ both.1)
 
 pub encode-block-spec : {M : Type 1} → statement M
 encode-block-spec =

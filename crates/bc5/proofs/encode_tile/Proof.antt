@@ -1,7 +1,7 @@
 use mathlib.Core.Path.{refl, sym, ◌∙◌}
 use lib.ListN.{length}
 use Rattle.place.proofs.Places.{size_small}
-use Rattle.bc5.proofs.Counts.{Channels, tile-passed}
+use Rattle.bc5.proofs.Counts.{Channels, tile_passed}
 use borrow.Author.Rules.{rules}
 use Rattle.bc5.proofs.encode_tile.Statement.{statement}
 use Rattle.bc5.proofs.encode_tile.Tie as tie
@@ -16,10 +16,10 @@ enum_told : tie.Need-enum-told
 enum_told c = search rules
 
 accepted : (t : tie.After-enum-told) → let a = t.before.before.before.before.before.before.args in Channels a.first.now a.second.now a.width a.height (length a.out.now)
-accepted t = let a = t.before.before.before.before.before.before.args in tile-passed a.first.now a.second.now a.width a.height (length a.out.now) (sym t.before.before.tile.ensures ∙ t.enum_told.given.1)
+accepted t = let a = t.before.before.before.before.before.before.args in tile_passed a.first.now a.second.now a.width a.height (length a.out.now) (sym t.before.before.tile.ensures ∙ t.enum_told.given.1)
 
 encode-pairs-requires : tie.Need-encode-pairs-requires
-encode-pairs-requires c κs = let a = accepted c.before in (a.good, a.first_count, a.second-count, a.room)
+encode-pairs-requires c κs = let a = accepted c.before in (a.good, a.first_count, a.second_count, a.room)
 
 encoded-length-requires : tie.Need-encoded-length-requires
 encoded-length-requires c κs = let small = size_small _ _ (accepted c.before.before.before.before).good in search rules

@@ -2,12 +2,12 @@ use mathlib.Core.Path.{◌≡◌, sym, ◌∙◌}
 use mathlib.Core.List.{◌∷◌}
 use native.Mathlib.Omega.{arith}
 use lib.ListN.{length}
-use Rattle.place.specs.Place.{bc5Size}
-use Rattle.place.proofs.Samples.{blockOf-whole}
+use Rattle.place.specs.Place.{bc5_size}
+use Rattle.place.proofs.Samples.{block_of_whole}
 use Rattle.refusal.specs.declared.Checked.TheVariants.{Passed}
-use Rattle.refusal.specs.Refusals.{first_of, lengthCheck, ditherCheck}
-use Rattle.bc5.specs.Checks.{nanChecks, resendChecks}
-use Rattle.bc5.proofs.Counts.{BothSixteen, both-sixteen, bytes-sixteen}
+use Rattle.refusal.specs.Refusals.{first_of, length_check, dither_check}
+use Rattle.bc5.specs.Checks.{nan_checks, resend_checks}
+use Rattle.bc5.proofs.Counts.{BothSixteen, both_sixteen, bytes_sixteen}
 use borrow.Author.Rules.{rules}
 use Rattle.bc5.proofs.resend.Statement.{statement}
 use Rattle.bc5.proofs.resend.Tie as tie
@@ -21,14 +21,14 @@ enum-known-checked c = search rules
 enum_told : tie.Need-enum-told
 enum_told c = search rules
 
-passed : (t : tie.After-enum-told) → let a = t.before.before.before.before.before.before.args in first_of (resendChecks a.first.now a.second.now a.held.now a.o) ≡ Passed
+passed : (t : tie.After-enum-told) → let a = t.before.before.before.before.before.before.args in first_of (resend_checks a.first.now a.second.now a.held.now a.o) ≡ Passed
 passed t = sym t.before.before.resend.ensures ∙ t.enum_told.given.1
 
 sixteen : (t : tie.After-enum-told) → let a = t.before.before.before.before.before.before.args in BothSixteen a.first.now a.second.now
-sixteen t = let a = t.before.before.before.before.before.before.args in both-sixteen a.first.now a.second.now (lengthCheck (length a.held.now) bc5Size ∷ ditherCheck a.o ∷ nanChecks a.first.now a.second.now) (passed t)
+sixteen t = let a = t.before.before.before.before.before.before.args in both_sixteen a.first.now a.second.now (length_check (length a.held.now) bc5_size ∷ dither_check a.o ∷ nan_checks a.first.now a.second.now) (passed t)
 
-long : (t : tie.After-enum-told) → let a = t.before.before.before.before.before.before.args in length a.held.now ≡ bc5Size
-long t = let a = t.before.before.before.before.before.before.args in bytes-sixteen a.first.now a.second.now a.held.now (ditherCheck a.o ∷ nanChecks a.first.now a.second.now) (passed t)
+long : (t : tie.After-enum-told) → let a = t.before.before.before.before.before.before.args in length a.held.now ≡ bc5_size
+long t = let a = t.before.before.before.before.before.before.args in bytes_sixteen a.first.now a.second.now a.held.now (dither_check a.o ∷ nan_checks a.first.now a.second.now) (passed t)
 
 gather-requires : tie.Need-gather-requires
 gather-requires c κs = let both = sixteen c in (search rules, omega arith)
@@ -73,7 +73,7 @@ returns-2 : tie.Need-returns-2
 returns-2 c =
     let t = c.before.before.before.before.before.before.before.before.before.before in
     let both = sixteen t in
-    rw (← t.before.before.resend.ensures, t.enum_told.given.1, c.before.before.before.before.better.ensures, c.better2.ensures, c.before.before.before.before.before.from_bytes.ensures, c.before.from-bytes2.ensures, c.before.before.before.before.before.before.before.before.before.gather.ensures, c.before.before.before.before.before.before.before.before.gather2.ensures, blockOf-whole _ both.0, blockOf-whole _ both.1)
+    rw (← t.before.before.resend.ensures, t.enum_told.given.1, c.before.before.before.before.better.ensures, c.better2.ensures, c.before.before.before.before.before.from_bytes.ensures, c.before.from-bytes2.ensures, c.before.before.before.before.before.before.before.before.before.gather.ensures, c.before.before.before.before.before.before.before.before.gather2.ensures, block_of_whole _ both.0, block_of_whole _ both.1)
 
 pub resend-spec : {M : Type 1} → statement M
 resend-spec =

@@ -3,15 +3,15 @@ use Prim.Native.Nat.{ℕ, ◌-◌}
 use native.Mathlib.Omega.{arith}
 use lib.Ieee.{nan}
 use borrow.Author.Rules.{rules}
-use Rattle.floats.specs.Helpers.{entryClamp}
-use Rattle.block.specs.Samples.{pixelAt}
+use Rattle.floats.specs.Helpers.{entry_clamp}
+use Rattle.block.specs.Samples.{pixel_at}
 use Rattle.block.specs.Block.{entered}
 use Rattle.block.proofs.Fill.{Filled, fill_start, fill_step, fill_end}
 use Rattle.block.proofs.from_raw.Statement.{statement}
 use Rattle.block.proofs.from_raw.Tie as tie
 
 abbrev invariant-loop : tie.invariant-loop
-invariant-loop samples clamped₀ i₀ clamped i = Filled nan (λ (k : ℕ). entryClamp (pixelAt samples k)) 16 clamped i
+invariant-loop samples clamped₀ i₀ clamped i = Filled nan (λ (k : ℕ). entry_clamp (pixel_at samples k)) 16 clamped i
 
 abbrev decreases-loop : tie.decreases-loop
 decreases-loop samples clamped₀ i₀ clamped i = 16 - i

@@ -1,5 +1,5 @@
 use Rattle.block.specs.Orders.{element}
-use Rattle.block.specs.Block.{minMax, smallest, largest}
+use Rattle.block.specs.Block.{min_max, smallest, largest}
 use borrow.Author.Rules.{rules}
 use Rattle.block.proofs.min_max.Statement.{statement}
 use Rattle.block.proofs.min_max.Tie as tie
@@ -20,7 +20,7 @@ across-requires : tie.Need-across-requires
 across-requires c κs = search rules
 
 returns : tie.Need-returns
-unfolding minMax smallest largest element
+unfolding min_max smallest largest element
 returns c =
     let l = c.before in
     rw (c.across.ensures, l.lane4.ensures, l.before.lane3.ensures, l.before.before.lane2.ensures, l.before.before.before.lane.ensures)

@@ -1,5 +1,5 @@
 use Rattle.block.specs.Orders.{element}
-use Rattle.block.specs.Block.{minMaxWithThreshold}
+use Rattle.block.specs.Block.{min_max_with_threshold}
 use borrow.Author.Rules.{rules}
 use Rattle.block.proofs.min_max_with_threshold.Statement.{statement}
 use Rattle.block.proofs.min_max_with_threshold.Tie as tie
@@ -20,10 +20,10 @@ across-requires : tie.Need-across-requires
 across-requires c κs = search rules
 
 returns : tie.Need-returns
-unfolding minMaxWithThreshold element
+unfolding min_max_with_threshold element
 returns c =
     let l = c.before in
-    rw (c.across.ensures, l.lane-within4.ensures, l.before.lane-within3.ensures, l.before.before.lane-within2.ensures, l.before.before.before.lane-within.ensures)
+    rw (c.across.ensures, l.lane-within4.ensures, l.before.lane-within3.ensures, l.before.before.lane-within2.ensures, l.before.before.before.lane_within_lem.ensures)
 
 pub min-max-with-threshold-spec : {M : Type 1} → statement M
 min-max-with-threshold-spec =

@@ -7,7 +7,7 @@ use lib.Seq.{take_all}
 use lib.ListN.{length}
 use borrow.Author.Rules.{rules}
 use Rattle.dds.specs.Layout.{Whole}
-use Rattle.dds.proofs.Headers.{read_whole, body-within}
+use Rattle.dds.proofs.Headers.{read_whole, body_within}
 use Rattle.dds.proofs.body.Statement.{statement}
 use Rattle.dds.proofs.body.Tie as tie
 
@@ -30,10 +30,10 @@ enum-told-2 : tie.Need-enum-told-2
 enum-told-2 c = search rules
 
 headers : (t : tie.After-enum-told2) → Whole t.before.before.before.before.args.file.now
-headers t = read_whole t.before.before.before.before.args.file.now (sym t.before.before.read-refusal.ensures ∙ t.enum-told2.given.1)
+headers t = read_whole t.before.before.before.before.args.file.now (sym t.before.before.read_refusal_lem.ensures ∙ t.enum-told2.given.1)
 
 within : (c : tie.After-body-at) → c.body_at.result ≤ length c.before.before.before.before.before.args.file.now
-within c = rw c.body_at.ensures (body-within c.before.before.before.before.before.args.file.now (headers c.before))
+within c = rw c.body_at.ensures (body_within c.before.before.before.before.before.args.file.now (headers c.before))
 
 body-at-requires : tie.Need-body-at-requires
 body-at-requires c κs = (headers c).header
@@ -48,14 +48,14 @@ part-result-end-2 : tie.Need-slice-bounds-result-end-2
 part-result-end-2 c = search rules
 
 returns : tie.Need-returns
-returns c = rw (← c.before.before.before.read-refusal.ensures, c.before.enum_told.given.1)
+returns c = rw (← c.before.before.before.read_refusal_lem.ensures, c.before.enum_told.given.1)
 
 returns-2 : tie.Need-returns-2
 returns-2 c =
     let t = c.before.before in
     let start = c.before.body_at.result in
     let file = t.before.before.before.before.args.file.now in
-    rw (← t.before.before.read-refusal.ensures, t.enum-told2.given.1, ← c.before.body_at.ensures, take_all (length file - start) (drop start file) (simp length-drop (omega arith)))
+    rw (← t.before.before.read_refusal_lem.ensures, t.enum-told2.given.1, ← c.before.body_at.ensures, take_all (length file - start) (drop start file) (simp length-drop (omega arith)))
 
 pub body-spec : {M : Type 1} → statement M
 body-spec =

@@ -14,13 +14,13 @@ enum_told : tie.Need-enum-told
 enum_told c = search rules
 
 picture-requires : tie.Need-picture-requires
-picture-requires c κs = read_whole _ (sym c.before.before.read-refusal.ensures ∙ c.enum_told.given.1)
+picture-requires c κs = read_whole _ (sym c.before.before.read_refusal_lem.ensures ∙ c.enum_told.given.1)
 
 returns : tie.Need-returns
-returns c = rw (← c.before.before.before.read-refusal.ensures, c.before.checked.given.1)
+returns c = rw (← c.before.before.before.read_refusal_lem.ensures, c.before.checked.given.1)
 
 returns-2 : tie.Need-returns-2
-returns-2 c = rw (← c.before.before.before.read-refusal.ensures, c.before.enum_told.given.1, c.picture.ensures)
+returns-2 c = rw (← c.before.before.before.read_refusal_lem.ensures, c.before.enum_told.given.1, c.picture.ensures)
 
 pub read_spec : {M : Type 1} → statement M
 read_spec =

@@ -3,10 +3,10 @@ use mathlib.Core.Path.{refl, sym, ◌∙◌}
 use native.Mathlib.Omega.{arith}
 use lib.ListN.{length, length-take, length-drop}
 use borrow.Author.Rules.{rules}
-use Rattle.place.proofs.Joined.{all-copied}
-use Rattle.dds.specs.Layout.{headerLength, headerOf}
-use Rattle.dds.proofs.Files.{header-length, tile-put}
-use Rattle.dds.proofs.Room.{Room, room as write-room}
+use Rattle.place.proofs.Joined.{all_copied}
+use Rattle.dds.specs.Layout.{header_length, header_of}
+use Rattle.dds.proofs.Files.{header_length_lem, tile_put}
+use Rattle.dds.proofs.Room.{Room, room as write_room}
 use Rattle.dds.proofs.write.Statement.{statement}
 use Rattle.dds.proofs.write.Tie as tie
 
@@ -21,7 +21,7 @@ enum_told c = search rules
 
 -- what the checks found
 room : (t : tie.After-enum-told) → let a = t.before.before.before.before.before.args in Room (length a.tile.now) a.width a.height (length a.out.now)
-room t = write-room _ _ _ _ (sym t.before.before.write-refusal.ensures ∙ t.enum_told.given.1)
+room t = write_room _ _ _ _ (sym t.before.before.write-refusal.ensures ∙ t.enum_told.given.1)
 
 put-requires : tie.Need-put-requires
 put-requires c κs = let r = room c.before in (r.good, search rules)
@@ -53,10 +53,10 @@ returns-2 c =
     let t = put.before.before in
     let a = t.before.before.before.before.before.args in
     let r = room t in
-    let header = headerOf a.width a.height a.snorm in
-    let copied = c.before.before.copy.ensures.1 ∙ all-copied a.tile.now _ (simp (length-take, length-drop) (omega arith)) in (
+    let header = header_of a.width a.height a.snorm in
+    let copied = c.before.before.copy.ensures.1 ∙ all_copied a.tile.now _ (simp (length-take, length-drop) (omega arith)) in (
       rw (← t.before.before.write-refusal.ensures, t.enum_told.given.1, r.tile),
-      rw (put.put.ensures, copied) (tile-put header a.tile.now a.out.now headerLength (header-length a.width a.height a.snorm)),
+      rw (put.put.ensures, copied) (tile_put header a.tile.now a.out.now header_length (header_length_lem a.width a.height a.snorm)),
     )
 
 pub write_spec : {M : Type 1} → statement M

@@ -1,4 +1,4 @@
-use Rattle.decode.specs.BlockError.{blockError}
+use Rattle.decode.specs.BlockError.{block_error}
 use borrow.Author.Rules.{rules}
 use Rattle.decode.proofs.block_error.Statement.{statement}
 use Rattle.decode.proofs.block_error.Tie as tie
@@ -10,7 +10,7 @@ error-sum-requires : tie.Need-error-sum-requires
 error-sum-requires c κs = search rules
 
 returns : tie.Need-returns
-unfolding blockError
+unfolding block_error
 returns c = rw (← c.before.before.decode-into.ensures) c.error-sum.ensures
 
 pub block-error-spec : {M : Type 1} → statement M

@@ -1,6 +1,6 @@
 use mathlib.Core.Path.{refl, ◌∙◌}
 use mathlib.Core.Bool.{true, false}
-use Rattle.decode.proofs.Laws.{picked-decoded}
+use Rattle.decode.proofs.Laws.{picked_decoded}
 use borrow.Author.Rules.{rules}
 use Rattle.decode.proofs.decode_into.Statement.{statement}
 use Rattle.decode.proofs.decode_into.Tie as tie
@@ -62,7 +62,7 @@ returns c =
     let t = l.before.before in
     rw t.if1.true
     (c.look_up.ensures
-    ∙ picked-decoded true t.before.args.block _ _ _ _ _ l.before.norm.ensures l.norm2.ensures e.end-values.ensures s.is-six.ensures v.eight-values.ensures)
+    ∙ picked_decoded true t.before.args.block _ _ _ _ _ l.before.norm.ensures l.norm2.ensures e.end-values.ensures s.is-six.ensures v.eight-values.ensures)
 
 returns-2 : tie.Need-returns-2
 returns-2 c =
@@ -71,7 +71,7 @@ returns-2 c =
     let e = s.before in
     let t = e.before in
     rw t.if1.false
-    (c.look-up2.ensures ∙ picked-decoded false t.before.args.block _ _ _ _ _ refl refl e.end-values2.ensures s.is-six2.ensures v.eight-values2.ensures)
+    (c.look-up2.ensures ∙ picked_decoded false t.before.args.block _ _ _ _ _ refl refl e.end-values2.ensures s.is-six2.ensures v.eight-values2.ensures)
 
 pub decode-into-spec : {M : Type 1} → statement M
 decode-into-spec =

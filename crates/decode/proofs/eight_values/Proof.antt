@@ -6,7 +6,7 @@ six-values-requires : tie.Need-six-values-requires
 six-values-requires c κs = search rules
 
 returns : tie.Need-returns
-returns c = rw c.before.if1.true c.six-values.ensures
+returns c = rw c.before.if1.true c.six_values_lem.ensures
 
 new-requires : tie.Need-new-requires
 new-requires c κs = search rules

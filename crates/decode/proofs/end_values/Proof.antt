@@ -6,14 +6,14 @@ use lib.ListN.{get_or}
 use lib.Ieee.{Float, nan}
 use mathlib.Core.Bool.{Bool}
 use borrow.Author.Rules.{rules}
-use Rattle.values.specs.Values.{levelValue}
+use Rattle.values.specs.Values.{level_value}
 use Rattle.block.specs.Samples.{tabulate}
 use Rattle.block.proofs.Fill.{Filled, fill_start, fill_step, fill_end}
 use Rattle.decode.proofs.end_values.Statement.{statement}
 use Rattle.decode.proofs.end_values.Tie as tie
 
 abbrev valueOfTwo : ℕ → ℕ → Bool → ℕ → Float
-valueOfTwo l0 l1 snorm i = levelValue (get_or (l0 ∷ l1 ∷ []) i 0) snorm
+valueOfTwo l0 l1 snorm i = level_value (get_or (l0 ∷ l1 ∷ []) i 0) snorm
 
 abbrev invariant-loop : tie.invariant-loop
 invariant-loop l0 l1 snorm levels floats₀ i₀ floats i = Filled nan (valueOfTwo l0 l1 snorm) 2 floats i

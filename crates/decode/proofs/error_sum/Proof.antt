@@ -2,19 +2,19 @@ use mathlib.Core.Path.{◌≡◌, refl}
 use Prim.Native.Nat.{◌≤◌, ◌-◌}
 use native.Mathlib.Omega.{arith}
 use borrow.Author.Rules.{rules}
-use Rattle.decode.specs.BlockError.{errorTo}
-use Rattle.decode.proofs.Laws.{errorTo-more}
+use Rattle.decode.specs.BlockError.{error_to}
+use Rattle.decode.proofs.Laws.{error_to_more}
 use Rattle.decode.proofs.error_sum.Statement.{statement}
 use Rattle.decode.proofs.error_sum.Tie as tie
 
 abbrev invariant-loop : tie.invariant-loop
-invariant-loop samples values sum₀ i₀ sum i = (i ≤ 16) × (sum ≡ errorTo samples values i)
+invariant-loop samples values sum₀ i₀ sum i = (i ≤ 16) × (sum ≡ error_to samples values i)
 
 abbrev decreases-loop : tie.decreases-loop
 decreases-loop samples values sum₀ i₀ sum i = 16 - i
 
 loop-holds : tie.Need-loop-init invariant-loop decreases-loop
-unfolding errorTo
+unfolding error_to
 loop-holds c = (search rules, refl)
 
 mul-sample-error : tie.Need-overflow-mul-sample-error invariant-loop decreases-loop
@@ -43,7 +43,7 @@ loop-again c =
     let h = c.before.before.before in
     let l = h.before.loop in
     let a = h.before.before.args in
-    (search rules, rw (errorTo-more a.samples.now a.values.now l.i, ← l.invariant.1, ← c.sample-error.ensures))
+    (search rules, rw (error_to_more a.samples.now a.values.now l.i, ← l.invariant.1, ← c.sample-error.ensures))
 
 returns : tie.Need-returns invariant-loop decreases-loop
 returns c =

@@ -1,4 +1,4 @@
-use Rattle.decode.specs.BlockError.{sampleError}
+use Rattle.decode.specs.BlockError.{sample_error}
 use borrow.Author.Rules.{rules}
 use Rattle.decode.proofs.sample_error.Statement.{statement}
 use Rattle.decode.proofs.sample_error.Tie as tie
@@ -7,7 +7,7 @@ entry-clamp-requires : tie.Need-entry-clamp-requires
 entry-clamp-requires c κs = search rules
 
 returns : tie.Need-returns
-unfolding sampleError
+unfolding sample_error
 returns c = rw c.entry-clamp.ensures
 
 pub sample-error-spec : {M : Type 1} → statement M

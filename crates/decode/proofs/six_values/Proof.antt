@@ -1,4 +1,4 @@
-use Rattle.decode.specs.Meaning.{sixValues}
+use Rattle.decode.specs.Meaning.{six_values}
 use borrow.Author.Rules.{rules}
 use Rattle.decode.proofs.six_values.Statement.{statement}
 use Rattle.decode.proofs.six_values.Tie as tie
@@ -25,7 +25,7 @@ blended-requires-6 : tie.Need-blended-requires-6
 blended-requires-6 c κs = search rules
 
 returns : tie.Need-returns
-unfolding sixValues
+unfolding six_values
 returns c =
     let b = c.before.before.before in
     rw (

@@ -1,4 +1,4 @@
-use Rattle.encode.specs.Encoder.{compressedOf}
+use Rattle.encode.specs.Encoder.{compressed_of}
 use borrow.Author.Rules.{rules}
 use Rattle.encode.proofs.compressed_of.Statement.{statement}
 use Rattle.encode.proofs.compressed_of.Tie as tie
@@ -10,7 +10,7 @@ six-only-requires : tie.Need-six-only-requires
 six-only-requires c κs = search rules
 
 returns : tie.Need-returns
-unfolding compressedOf
+unfolding compressed_of
 returns c = rw (← c.before.six-only.ensures, c.if1.true, c.before.before.compress-inter6.ensures)
 
 compress-inter4-requires : tie.Need-compress-inter4-requires
@@ -20,7 +20,7 @@ smaller-requires : tie.Need-smaller-requires
 smaller-requires c κs = search rules
 
 returns-2 : tie.Need-returns-2
-unfolding compressedOf
+unfolding compressed_of
 returns-2 c =
     let k = c.before.before.before in
     rw (← k.six-only.ensures, c.before.before.if1.false, c.smaller.ensures, c.before.compress-inter4.ensures, k.before.compress-inter6.ensures)

@@ -1,5 +1,5 @@
 use Rattle.encode.specs.Encoder.{encoded}
-use Rattle.encode.proofs.Middle.{middle-from-0, middle-to-1}
+use Rattle.encode.proofs.Middle.{middle_from_0, middle_to_1}
 use borrow.Author.Rules.{rules}
 use Rattle.encode.proofs.encoded.Statement.{statement}
 use Rattle.encode.proofs.encoded.Tie as tie
@@ -19,7 +19,7 @@ returns c =
 single-color-requires : tie.Need-single-color-requires
 single-color-requires c κs =
     let u = c.before.before.before.before.before.requires in
-    (middle-from-0 _ _ u.0 u.1 u.2 u.3, middle-to-1 _ _ u.0 u.1 u.2 u.3)
+    (middle_from_0 _ _ u.0 u.1 u.2 u.3, middle_to_1 _ _ u.0 u.1 u.2 u.3)
 
 returns-2 : tie.Need-returns-2
 unfolding encoded

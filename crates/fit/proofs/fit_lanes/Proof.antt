@@ -1,4 +1,4 @@
-use Rattle.fit.specs.Lanes.{fitLanes}
+use Rattle.fit.specs.Lanes.{fit_lanes}
 use borrow.Author.Rules.{rules}
 use Rattle.fit.proofs.fit_lanes.Statement.{statement}
 use Rattle.fit.proofs.fit_lanes.Tie as tie
@@ -19,7 +19,7 @@ line-lanes-requires-2 : tie.Need-line-lanes-requires-2
 line-lanes-requires-2 c κs = search rules
 
 returns : tie.Need-returns
-unfolding fitLanes
+unfolding fit_lanes
 returns c =
     let m = c.before.before in
     rw (c.line-lanes2.ensures, c.before.line-lanes.ensures, m.matrix.ensures, m.before.weigh.ensures, m.before.before.new.ensures)

@@ -1,5 +1,5 @@
 use mathlib.Core.Path.{◌∙◌}
-use Rattle.fit.proofs.FitLaws.{lanes-fitted}
+use Rattle.fit.proofs.FitLaws.{lanes_fitted}
 use borrow.Author.Rules.{rules}
 use Rattle.fit.proofs.fitted.Statement.{statement}
 use Rattle.fit.proofs.fitted.Tie as tie
@@ -14,7 +14,7 @@ returns : tie.Need-returns
 returns c =
     let l = c.before.before in
     let a = l.before.args in
-    c.ends.ensures ∙ lanes-fitted a.b.now a.p l.fit-lanes.result l.fit-lanes.ensures c.before.if1.true
+    c.ends.ensures ∙ lanes_fitted a.b.now a.p l.fit-lanes.result l.fit-lanes.ensures c.before.if1.true
 
 fitted-plainly-requires : tie.Need-fitted-plainly-requires
 fitted-plainly-requires c κs = search rules

@@ -1,6 +1,6 @@
 use mathlib.Core.Path.{ap, ◌∙◌}
 use Rattle.fit.specs.Fit.{fitted}
-use Rattle.fit.proofs.FitLaws.{lanes-fitted}
+use Rattle.fit.proofs.FitLaws.{lanes_fitted}
 use borrow.Author.Rules.{rules}
 use Rattle.fit.proofs.fitted_twice.Statement.{statement}
 use Rattle.fit.proofs.fitted_twice.Tie as tie
@@ -18,7 +18,7 @@ returns : tie.Need-returns
 returns c =
     let l = c.before.before.before in
     let a = l.before.args in
-    c.fitted.ensures ∙ ap (fitted a.b.now) (c.before.ends.ensures ∙ lanes-fitted a.b.now a.p l.fit-lanes.result l.fit-lanes.ensures c.before.before.if1.true)
+    c.fitted.ensures ∙ ap (fitted a.b.now) (c.before.ends.ensures ∙ lanes_fitted a.b.now a.p l.fit-lanes.result l.fit-lanes.ensures c.before.before.if1.true)
 
 fitted-plainly-requires : tie.Need-fitted-plainly-requires
 fitted-plainly-requires c κs = search rules

@@ -8,13 +8,13 @@ use borrow.Author.Rules.{rules}
 use Rattle.block.proofs.Fill.{Filled, fill_start, fill_step, fill_end}
 use Rattle.palette.specs.declared.inter6.Inter6Palette.{Inter6Palette}
 use Rattle.fit.specs.declared.Lane.{Lane}
-use Rattle.fit.specs.Lanes.{laneAt, aboveTo, weighed}
+use Rattle.fit.specs.Lanes.{lane_at, above_to, weighed}
 use Rattle.fit.proofs.weigh.Statement.{statement}
 use Rattle.fit.proofs.weigh.Tie as tie
 
 -- what each of the first j lanes has there
 abbrev Has : Inter6Palette → List Float → (Lane → Float) → List Float → ℕ → Type 0
-Has p b part out j = Filled nan (λ k. part (laneAt p b k)) 4 out j
+Has p b part out j = Filled nan (λ k. part (lane_at p b k)) 4 out j
 
 abbrev invariant-loop : tie.invariant-loop
 invariant-loop p b w0₀ w1₀ w2₀ w3₀ ww₀ wv₀ vv₀ above₀ j₀ w0 w1 w2 w3 ww wv vv above j =
@@ -25,13 +25,13 @@ invariant-loop p b w0₀ w1₀ w2₀ w3₀ ww₀ wv₀ vv₀ above₀ j₀ w0 w1
     × Has p b (λ l. l.ww) ww j
     × Has p b (λ l. l.wv) wv j
     × Has p b (λ l. l.vv) vv j
-    × (above ≡ aboveTo p b j)
+    × (above ≡ above_to p b j)
 
 abbrev decreases-loop : tie.decreases-loop
 decreases-loop p b w0₀ w1₀ w2₀ w3₀ ww₀ wv₀ vv₀ above₀ j₀ w0 w1 w2 w3 ww wv vv above j = 4 - j
 
 loop-holds : tie.Need-loop-init invariant-loop decreases-loop
-unfolding aboveTo
+unfolding above_to
 loop-holds c = (fill_start refl, fill_start refl, fill_start refl, fill_start refl, fill_start refl, fill_start refl, fill_start refl, refl)
 
 weigh-lane-requires : tie.Need-weigh-lane-requires invariant-loop decreases-loop
@@ -86,7 +86,7 @@ loop-less : tie.Need-loop-smaller invariant-loop decreases-loop
 loop-less c = search rules
 
 loop-again : tie.Need-loop-preserved invariant-loop decreases-loop
-unfolding aboveTo
+unfolding above_to
 loop-again c =
     let n = c.before in
     let v = n.before.before.loop.invariant in

@@ -1,5 +1,5 @@
 use Rattle.std.proofs.Common.{arith, rules}
-use Rattle.floats.proofs.Casts.{byte_full, byte-empty, byte-under, byte-narrow, cut_low, cut_high}
+use Rattle.floats.proofs.Casts.{byte_full, byte_empty, byte_under, byte_narrow, cut_low, cut_high}
 use Rattle.floats.proofs.byte_of.Statement.{statement}
 use Rattle.floats.proofs.byte_of.Tie as tie
 
@@ -17,10 +17,10 @@ cast-result c = search rules
 returns-2 : tie.Need-returns-2
 returns-2 c =
     let x = c.before.before.before.args.x in
-    omega (arith, c.truncating-f32-to-u64.ensures, byte-narrow x, byte-under x c.before.before.if1.false)
+    omega (arith, c.truncating-f32-to-u64.ensures, byte_narrow x, byte_under x c.before.before.if1.false)
 
 returns-3 : tie.Need-returns-3
-returns-3 c = byte-empty c.before.before.args.x c.if2.false
+returns-3 c = byte_empty c.before.before.args.x c.if2.false
 
 pub byte-of-spec : {M : Type 1} → statement M
 byte-of-spec =

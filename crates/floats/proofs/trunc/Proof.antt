@@ -1,4 +1,4 @@
-use Rattle.floats.proofs.WholePart.{trunc-is}
+use Rattle.floats.proofs.WholePart.{trunc_is}
 use Rattle.std.proofs.Common.{rules}
 use Rattle.floats.proofs.trunc.Statement.{statement}
 use Rattle.floats.proofs.trunc.Tie as tie
@@ -19,7 +19,7 @@ returns : tie.Need-returns
 returns c =
     let b = c.before.before.before in
     let x = b.before.args.x in
-    rw (c.pick2.ensures, c.before.pick.ensures) (trunc-is x _ _ b.before.well-formed.0.1 b.whole_part.ensures c.before.before.whole-part2.ensures)
+    rw (c.pick2.ensures, c.before.pick.ensures) (trunc_is x _ _ b.before.well-formed.0.1 b.whole_part.ensures c.before.before.whole-part2.ensures)
 
 pub trunc-spec : {M : Type 1} → statement M
 trunc-spec =

@@ -1,6 +1,6 @@
 use Rattle.std.proofs.Common.{ap, ◌∙◌, rules}
 use Rattle.floats.specs.Arithmetic.{whole}
-use Rattle.floats.proofs.Casts.{kept-is}
+use Rattle.floats.proofs.Casts.{kept_is}
 use Rattle.floats.proofs.up_to_7.Statement.{statement}
 use Rattle.floats.proofs.up_to_7.Tie as tie
 
@@ -16,7 +16,7 @@ whole-part-requires c κs = search rules
 returns : tie.Need-returns
 returns c =
     let b = c.before.before in
-    let k = kept-is b.before.args.x in
+    let k = kept_is b.before.args.x in
     let cut = rw (c.before.lane-min.ensures, b.lane-max.ensures) at c.whole_part.ensures in
     cut k.0 k.1 ∙ ap whole k.2
 

@@ -1,5 +1,5 @@
 use native.Mathlib.Omega.{arith}
-use Rattle.index_list.proofs.Laws.{from-eight}
+use Rattle.index_list.proofs.Laws.{from_eight}
 use borrow.Author.Rules.{rules}
 use Rattle.index_list.proofs.from_bytes.Statement.{statement}
 use Rattle.index_list.proofs.from_bytes.Tie as tie
@@ -97,7 +97,7 @@ add-result c = search rules
 returns : tie.Need-returns
 returns c =
     let start = c.before.before.before.before.before.before.before.before.before.before.before.before.before.before.before.before.before in
-    let e = from-eight start.args.b.now start.requires in
+    let e = from_eight start.args.b.now start.requires in
     omega arith
 
 pub from-bytes-spec : {M : Type 1} → statement M

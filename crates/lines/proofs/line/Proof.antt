@@ -4,11 +4,11 @@ use mathlib.Core.List.{List}
 use Prim.Native.Nat.{ℕ, ◌<◌}
 use lib.Dec.{lit<}
 use Rattle.refusal.specs.declared.Refusal.{Refusal}
-use Rattle.refusal.specs.Refusals.{number_of, encodeChecks, andWord}
-use Rattle.refusal.proofs.Firsts.{refusal-of, first-among}
+use Rattle.refusal.specs.Refusals.{number_of, encode_checks, and_word}
+use Rattle.refusal.proofs.Firsts.{refusal_of, first_among}
 use Rattle.bc4.specs.declared.Encoded.TheVariants.{Block, Refused}
-use Rattle.bc4.specs.Calls.{ofEncoded}
-use Rattle.lines.specs.Input.{recordWord, samplesOf}
+use Rattle.bc4.specs.Calls.{of_encoded}
+use Rattle.lines.specs.Input.{record_word, samples_of}
 use Rattle.lines.specs.Answers.{answer_of, line_of}
 use borrow.Author.Rules.{rules}
 use Rattle.lines.proofs.line.Statement.{statement}
@@ -17,8 +17,8 @@ use Rattle.lines.proofs.line.Tie as tie
 -- A record is refused by one of the checks of the block call by word: 2, 7 and 8.
 one-digit : (bytes : List ℕ) (q : Refusal) → answer_of bytes ≡ Refused q → number_of q < 10
 one-digit bytes q e =
-    first-among (λ p. number_of p < 10) (andWord (encodeChecks (samplesOf bytes)) (recordWord bytes).malformed) (lit< tt, (lit< tt, (lit< tt, tt)))
-    (sym (refusal-of ofEncoded Refused (Block _) refl (λ p. refl) _) ∙ ap ofEncoded e)
+    first_among (λ p. number_of p < 10) (and_word (encode_checks (samples_of bytes)) (record_word bytes).malformed) (lit< tt, (lit< tt, (lit< tt, tt)))
+    (sym (refusal_of of_encoded Refused (Block _) refl (λ p. refl) _) ∙ ap of_encoded e)
 
 answer-to-requires : tie.Need-answer-to-requires
 answer-to-requires c κs = search rules

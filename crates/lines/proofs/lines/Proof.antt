@@ -5,19 +5,19 @@ use native.Mathlib.Numerals.{add-one}
 use native.Mathlib.Omega.{arith}
 use lib.ListN.{length, take, length-take, length-drop}
 use borrow.Author.Rules.{rules}
-use Rattle.lines.specs.Answers.{answer_of, line_of, recordAt, linesTo, AtStart}
-use Rattle.lines.proofs.Laws.{copied, written-more, line-bytes}
+use Rattle.lines.specs.Answers.{answer_of, line_of, record_at, lines_to, AtStart}
+use Rattle.lines.proofs.Laws.{copied, written_more, line_bytes}
 use Rattle.lines.proofs.lines.Statement.{statement}
 use Rattle.lines.proofs.lines.Tie as tie
 
 abbrev invariant-loop : tie.invariant-loop
-invariant-loop input out₀ at₀ i₀ i-end out at i = (i ≤ length input / 68) × (at ≤ i * 17) × (length out ≡ length out₀) × AtStart (linesTo input i) out₀ out at
+invariant-loop input out₀ at₀ i₀ i-end out at i = (i ≤ length input / 68) × (at ≤ i * 17) × (length out ≡ length out₀) × AtStart (lines_to input i) out₀ out at
 
 abbrev decreases-loop : tie.decreases-loop
 decreases-loop input out₀ at₀ i₀ i-end out at i = length input / 68 - i
 
 loop-holds : tie.Need-loop-init invariant-loop decreases-loop
-unfolding linesTo
+unfolding lines_to
 loop-holds c = (search rules, search rules, refl, record { within = search rules; start = refl; rest = refl })
 
 mul-line : tie.Need-overflow-mul-line invariant-loop decreases-loop
@@ -54,13 +54,13 @@ array-share-prefix-text : tie.Need-array-share-prefix-text invariant-loop decrea
 array-share-prefix-text c = search rules
 
 slice-aggregate-copy : tie.Need-slice-aggregate-copy invariant-loop decreases-loop
-slice-aggregate-copy c = sym (line-bytes c.before.before.before.line.ensures)
+slice-aggregate-copy c = sym (line_bytes c.before.before.before.line.ensures)
 
 copy-requires : tie.Need-copy-requires invariant-loop decreases-loop
 copy-requires c κs = simp (length-take, length-drop) (omega arith)
 
 add_at : tie.Need-overflow-add-at invariant-loop decreases-loop
-add_at c = let long = line-bytes c.before.before.before.before.before.before.line.ensures in omega arith
+add_at c = let long = line_bytes c.before.before.before.before.before.before.line.ensures in omega arith
 
 add-i : tie.Need-overflow-add-i invariant-loop decreases-loop
 add-i c = search rules
@@ -69,18 +69,18 @@ loop-less : tie.Need-loop-smaller invariant-loop decreases-loop
 loop-less c = search rules
 
 loop-again : tie.Need-loop-preserved invariant-loop decreases-loop
-unfolding linesTo
+unfolding lines_to
 loop-again c =
     let copied-line = c.before.before.copy in
     let made = c.before.before.before.before.before.before in
     let l = made.before.before.before.loop in
     let line = made.line in
-    let long = line-bytes line.ensures in
+    let long = line_bytes line.ensures in
     let text = take line.result.length line.result.bytes in
     let whole : l.i * 68 + 68 - l.i * 68 ≡ 68 = omega arith in
-    let same : text ≡ line_of (answer_of (recordAt made.before.before.before.before.before.before.args.input.now l.i))
+    let same : text ≡ line_of (answer_of (record_at made.before.before.before.before.before.before.args.input.now l.i))
     = rw (line.ensures.same, whole) in
-    let more = written-more text l.invariant.3 (omega arith) in
+    let more = written_more text l.invariant.3 (omega arith) in
     rw (copied-line.ensures.1, copied l.out text l.at (omega arith), copied-line.ensures.0, add-one, ← same) (omega arith, omega arith, more.1 ∙ l.invariant.2, more.0)
 
 same_length : tie.Need-same-length invariant-loop decreases-loop

@@ -3,9 +3,9 @@ use mathlib.Core.List.{append-nil}
 use Prim.Native.Nat.{◌/◌}
 use native.Mathlib.Omega.{arith}
 use lib.ListN.{length, length-take, length-drop}
-use Rattle.lines.specs.Output.{shortLine}
+use Rattle.lines.specs.Output.{short_line}
 use Rattle.lines.specs.Answers.{text_of}
-use Rattle.lines.proofs.Laws.{copied, written-more, lines-room}
+use Rattle.lines.proofs.Laws.{copied, written_more, lines_room}
 use borrow.Author.Rules.{rules}
 use borrow.Author.Tests.{ne_eqb}
 use Rattle.lines.proofs.text.Statement.{statement}
@@ -37,7 +37,7 @@ copy-requires : tie.Need-copy-requires
 copy-requires c κs =
     let l = c.before.before.before.before.before in
     let input = l.before.before.before.before.args.input.now in
-    let most = lines-room input (length input / 68) l.lines.ensures in
+    let most = lines_room input (length input / 68) l.lines.ensures in
     simp (length-take, length-drop) (omega arith)
 
 add-result : tie.Need-overflow-add-result
@@ -51,10 +51,10 @@ unfolding text_of
 returns-2 c =
     let l = c.before.before.before.before.before.before.before.before in
     let input = l.before.before.before.before.args.input.now in
-    let most = lines-room input (length input / 68) l.lines.ensures in
+    let most = lines_room input (length input / 68) l.lines.ensures in
     let p = c.before.before.copy in
-    rw (ne_eqb _ _ c.before.before.before.before.before.if1.false, p.ensures.1, copied l.lines.new.1.0 shortLine l.lines.result (omega arith), p.ensures.0)
-    (written-more shortLine l.lines.ensures (omega arith)).0
+    rw (ne_eqb _ _ c.before.before.before.before.before.if1.false, p.ensures.1, copied l.lines.new.1.0 short_line l.lines.result (omega arith), p.ensures.0)
+    (written_more short_line l.lines.ensures (omega arith)).0
 
 pub text-spec : {M : Type 1} → statement M
 text-spec =

@@ -1,5 +1,5 @@
 use native.Mathlib.Omega.{arith}
-use Rattle.index_list.specs.Indexes.{filledTo}
+use Rattle.index_list.specs.Indexes.{filled_to}
 use borrow.Author.Rules.{rules}
 use Rattle.palette.proofs.indexes.Statement.{statement}
 use Rattle.palette.proofs.indexes.Tie as tie
@@ -20,7 +20,7 @@ of-rows-requires : tie.Need-of-rows-requires
 of-rows-requires c κs = search rules
 
 returns : tie.Need-returns
-unfolding filledTo
+unfolding filled_to
 returns c =
     let r = c.before in
     omega (arith, c.of-rows.ensures, r.row-code4.ensures.0, r.before.row-code3.ensures.0, r.before.before.row-code2.ensures.0, r.before.before.before.row-code.ensures.0)

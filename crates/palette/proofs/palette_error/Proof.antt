@@ -1,5 +1,5 @@
-use Rattle.palette.specs.PaletteError.{paletteError}
-use Rattle.palette.proofs.EightValues.{values-in}
+use Rattle.palette.specs.PaletteError.{palette_error}
+use Rattle.palette.proofs.EightValues.{values_in_lem}
 use borrow.Author.Rules.{rules}
 use Rattle.palette.proofs.palette_error.Statement.{statement}
 use Rattle.palette.proofs.palette_error.Tie as tie
@@ -11,10 +11,10 @@ block-closest-error-sq-requires : tie.Need-block-closest-error-sq-requires
 block-closest-error-sq-requires c κs = search rules
 
 returns : tie.Need-returns
-unfolding paletteError
+unfolding palette_error
 returns c =
     let a = c.before.before.args in
-    rw (← values-in a.kind a.c0 a.c1, ← c.before.new.ensures) c.block-closest-error-sq.ensures
+    rw (← values_in_lem a.kind a.c0 a.c1, ← c.before.new.ensures) c.block-closest-error-sq.ensures
 
 pub palette-error-spec : {M : Type 1} → statement M
 palette-error-spec = tie.close (tie.spec new-requires block-closest-error-sq-requires returns)

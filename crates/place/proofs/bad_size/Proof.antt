@@ -1,5 +1,5 @@
 use borrow.Author.Rules.{rules}
-use Rattle.place.specs.Place.{badSize}
+use Rattle.place.specs.Place.{bad_size}
 use Rattle.place.proofs.bad_size.Statement.{statement}
 use Rattle.place.proofs.bad_size.Tie as tie
 
@@ -10,7 +10,7 @@ bad-side-requires-2 : tie.Need-bad-side-requires-2
 bad-side-requires-2 c κs = search rules
 
 returns : tie.Need-returns
-unfolding badSize
+unfolding bad_size
 returns c = cc
 
 pub bad-size-spec : {M : Type 1} → statement M

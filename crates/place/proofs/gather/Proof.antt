@@ -4,15 +4,15 @@ use native.Mathlib.Omega.{arith}
 use lib.ListN.{length}
 use lib.Ieee.{nan}
 use borrow.Author.Rules.{rules}
-use Rattle.block.specs.Samples.{pixelAt}
+use Rattle.block.specs.Samples.{pixel_at}
 use Rattle.block.proofs.Fill.{Filled, fill_start, fill_step, fill_end}
-use Rattle.place.specs.Place.{sampleIndex, block_of}
-use Rattle.place.proofs.Samples.{sample-within}
+use Rattle.place.specs.Place.{sample_index, block_of}
+use Rattle.place.proofs.Samples.{sample_within}
 use Rattle.place.proofs.gather.Statement.{statement}
 use Rattle.place.proofs.gather.Tie as tie
 
 abbrev invariant-loop : tie.invariant-loop
-invariant-loop samples width column row b₀ i₀ b i = Filled nan (λ (k : ℕ). pixelAt samples (sampleIndex width column row k)) 16 b i
+invariant-loop samples width column row b₀ i₀ b i = Filled nan (λ (k : ℕ). pixel_at samples (sample_index width column row k)) 16 b i
 
 abbrev decreases-loop : tie.decreases-loop
 decreases-loop samples width column row b₀ i₀ b i = 16 - i
@@ -24,13 +24,13 @@ loop-holds c = fill_start refl
 Room : tie.In-loop invariant-loop decreases-loop → Type 0
 Room c =
     let a = c.before.before.args in
-    (4 * a.row + 4 ≤ length a.samples.now) × (sampleIndex a.width a.column a.row c.before.loop.i < length a.samples.now)
+    (4 * a.row + 4 ≤ length a.samples.now) × (sample_index a.width a.column a.row c.before.loop.i < length a.samples.now)
 
 room : (c : tie.In-loop invariant-loop decreases-loop) → Room c
 unfolding Room
 room c =
     let a = c.before.before.args in
-    let w = sample-within a.width a.column a.row c.before.loop.i (search rules) (search rules) in
+    let w = sample_within a.width a.column a.row c.before.loop.i (search rules) (search rules) in
     (omega arith, omega arith)
 
 mul-b : tie.Need-overflow-mul-b invariant-loop decreases-loop

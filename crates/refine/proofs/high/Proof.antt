@@ -2,13 +2,13 @@ use mathlib.Core.Path.{◌≡◌, sym}
 use Prim.Native.Nat.{◌≤◌, ◌-◌}
 use native.Mathlib.Omega.{arith}
 use borrow.Author.Rules.{rules}
-use Rattle.refine.specs.Refining.{highTo}
-use Rattle.refine.proofs.Rounding.{high-more}
+use Rattle.refine.specs.Refining.{high_to}
+use Rattle.refine.proofs.Rounding.{high_more}
 use Rattle.refine.proofs.high.Statement.{statement}
 use Rattle.refine.proofs.high.Tie as tie
 
 abbrev invariant-loop : tie.invariant-loop
-invariant-loop kind b snorm p h₀ i₀ h i = (i ≤ 3) × (h ≡ highTo kind b snorm p i)
+invariant-loop kind b snorm p h₀ i₀ h i = (i ≤ 3) × (h ≡ high_to kind b snorm p i)
 
 abbrev decreases-loop : tie.decreases-loop
 decreases-loop kind b snorm p h₀ i₀ h i = 3 - i
@@ -20,7 +20,7 @@ hold-requires : tie.Need-hold-requires invariant-loop decreases-loop
 hold-requires c κs = search rules
 
 loop-holds : tie.Need-loop-init invariant-loop decreases-loop
-unfolding highTo
+unfolding high_to
 loop-holds c = (search rules, rw (c.hold.ensures, c.before.quantize.ensures))
 
 add-closer : tie.Need-overflow-add-closer invariant-loop decreases-loop
@@ -49,7 +49,7 @@ loop-again c =
     let a = h.before.before.before.args in (
       search rules,
       rw (c.better.ensures, q.quantize2.ensures, n.closer.ensures, h.loop.invariant.1)
-          (sym (high-more a.kind a.b.now a.snorm a.p h.loop.i)),
+          (sym (high_more a.kind a.b.now a.snorm a.p h.loop.i)),
     )
 
 returns : tie.Need-returns invariant-loop decreases-loop

@@ -1,4 +1,4 @@
-use Rattle.refine.specs.Refining.{otherPair}
+use Rattle.refine.specs.Refining.{other_pair}
 use borrow.Author.Rules.{rules}
 use Rattle.refine.proofs.other.Statement.{statement}
 use Rattle.refine.proofs.other.Tie as tie
@@ -13,7 +13,7 @@ pick-requires : tie.Need-pick-requires
 pick-requires c κs = search rules
 
 returns : tie.Need-returns
-unfolding otherPair
+unfolding other_pair
 returns c =
     let t = c.before.before in
     rw (← t.before.abs2.ensures, ← t.before.before.abs.ensures, t.if1.true, c.before.pick.ensures)
@@ -22,7 +22,7 @@ pick-requires-2 : tie.Need-pick-requires-2
 pick-requires-2 c κs = search rules
 
 returns-2 : tie.Need-returns-2
-unfolding otherPair
+unfolding other_pair
 returns-2 c =
     let t = c.before.before in
     rw (← t.before.abs2.ensures, ← t.before.before.abs.ensures, t.if1.false, c.before.pick2.ensures)

@@ -1,4 +1,4 @@
-use Rattle.refine.specs.Refining.{refinedEnds}
+use Rattle.refine.specs.Refining.{refined_ends}
 use borrow.Author.Rules.{rules}
 use Rattle.refine.proofs.refine_endpoints.Statement.{statement}
 use Rattle.refine.proofs.refine_endpoints.Tie as tie
@@ -16,7 +16,7 @@ quantizing-requires : tie.Need-quantizing-requires
 quantizing-requires c κs = search rules
 
 returns : tie.Need-returns
-unfolding refinedEnds
+unfolding refined_ends
 returns c = rw (c.quantizing.ensures, c.before.refine-endpoints.ensures, c.before.before.first_step.ensures, c.before.before.before.least_step.ensures)
 
 pub refine-endpoints-spec : {M : Type 1} → statement M

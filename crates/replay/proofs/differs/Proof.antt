@@ -1,7 +1,7 @@
 -- `replay::differs` meets its contract, case by case.
 use native.Mathlib.Omega.{arith}
 use lib.ListN.{length-take}
-use Rattle.replay.specs.Entry.{unlike, differsOf}
+use Rattle.replay.specs.Entry.{unlike, differs_of}
 use borrow.Author.Rules.{rules}
 use Rattle.replay.proofs.differs.Statement.{statement}
 use Rattle.replay.proofs.differs.Tie as tie
@@ -28,14 +28,14 @@ enum_told : tie.Need-enum-told
 enum_told c = search rules
 
 returns : tie.Need-returns
-unfolding differsOf unlike
+unfolding differs_of unlike
 returns c =
     let a = c.before.before.before in
     let j = a.before.before in
     rw (← a.answer-to.ensures, c.before.answer.given.1, j.joined.ensures, j.before.read-u322.ensures, j.before.before.read_u32.ensures)
 
 returns-2 : tie.Need-returns-2
-unfolding differsOf unlike
+unfolding differs_of unlike
 returns-2 c = rw (← c.before.before.answer-to.ensures, c.enum_told.given.1)
 
 pub differs-spec : {M : Type 1} → statement M

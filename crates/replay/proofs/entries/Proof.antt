@@ -6,18 +6,18 @@ use native.Mathlib.Numerals.{add-one}
 use native.Mathlib.Omega.{arith}
 use lib.ListN.{length, length-take, length-drop}
 use borrow.Author.Rules.{rules}
-use Rattle.replay.specs.Entry.{differsOf, entry_at, differingTo, tallied}
+use Rattle.replay.specs.Entry.{differs_of, entry_at, differing_to, tallied}
 use Rattle.replay.proofs.entries.Statement.{statement}
 use Rattle.replay.proofs.entries.Tie as tie
 
 abbrev invariant-loop : tie.invariant-loop
-invariant-loop input records differ d₀ i₀ i-end d i = (i ≤ length input / 76) × (d ≤ records + i) × (d ≡ differ + differingTo input i)
+invariant-loop input records differ d₀ i₀ i-end d i = (i ≤ length input / 76) × (d ≤ records + i) × (d ≡ differ + differing_to input i)
 
 abbrev decreases-loop : tie.decreases-loop
 decreases-loop input records differ d₀ i₀ i-end d i = length input / 76 - i
 
 loop-holds : tie.Need-loop-init invariant-loop decreases-loop
-unfolding differingTo
+unfolding differing_to
 loop-holds c = search rules
 
 mul-differs : tie.Need-overflow-mul-differs invariant-loop decreases-loop
@@ -57,12 +57,12 @@ loop-less : tie.Need-loop-smaller invariant-loop decreases-loop
 loop-less c = search rules
 
 loop-again : tie.Need-loop-preserved invariant-loop decreases-loop
-unfolding differingTo
+unfolding differing_to
 loop-again c =
     let l = c.before.before.before.before.loop in
     let input = c.before.before.before.before.before.before.args.input.now in
     let whole : l.i * 76 + 76 - l.i * 76 ≡ 76 = omega arith in
-    let found : c.before.differs.result ≡ differsOf (entry_at input l.i) = rw whole at c.before.differs.ensures in
+    let found : c.before.differs.result ≡ differs_of (entry_at input l.i) = rw whole at c.before.differs.ensures in
     ⊎_elim
     (λ w. (omega arith, omega arith, rw (add-one, ← found, w.0.taken) (omega arith)))
     (λ w. (omega arith, omega arith, rw (add-one, ← found, w.0.left) (omega arith)))

@@ -6,7 +6,7 @@ use Prim.Native.Nat.{ℕ, zero, suc, ◌+◌, ◌*◌, ◌/◌, ◌≤◌}
 use native.Mathlib.Omega.{arith}
 use lib.ListN.{length, length-take}
 use Rattle.replay.specs.declared.Tally.{Tally}
-use Rattle.replay.specs.Entry.{differsOf, entry_at, differingTo, tallied}
+use Rattle.replay.specs.Entry.{differs_of, entry_at, differing_to, tallied}
 use borrow.Author.Rules.{rules}
 use Rattle.replay.proofs.main.Statement.{statement}
 use Rattle.replay.proofs.main.Tie as tie
@@ -15,10 +15,10 @@ one_more : (d : Bool) (m n : ℕ) → m ≤ n → m + cond d 1 0 ≤ suc n
 one_more true m n h = omega arith
 one_more false m n h = omega arith
 
-differing-le : (input : List ℕ) (n : ℕ) → differingTo input n ≤ n
-unfolding differingTo
+differing-le : (input : List ℕ) (n : ℕ) → differing_to input n ≤ n
+unfolding differing_to
 differing-le input zero = omega arith
-differing-le input (suc n) = one_more (differsOf (entry_at input n)) (differingTo input n) n (differing-le input n)
+differing-le input (suc n) = one_more (differs_of (entry_at input n)) (differing_to input n) n (differing-le input n)
 
 -- a buffer adds at most 860 records
 tally-most : (records differ : ℕ) (input : List ℕ) {t : Tally} → t ≡ tallied records differ input → length input ≤ 65360 → differ ≤ records

@@ -2,19 +2,19 @@ use mathlib.Core.Path.{◌≡◌, sym}
 use Prim.Native.Nat.{◌≤◌, ◌-◌}
 use native.Mathlib.Omega.{arith}
 use borrow.Author.Rules.{rules}
-use Rattle.search.specs.Search.{maxesTried}
-use Rattle.search.proofs.Steps.{maxes-none, maxes-more}
+use Rattle.search.specs.Search.{maxes_tried}
+use Rattle.search.proofs.Steps.{maxes_none, maxes_more}
 use Rattle.search.proofs.maxes_tried.Statement.{statement}
 use Rattle.search.proofs.maxes_tried.Tie as tie
 
 abbrev invariant-loop : tie.invariant-loop
-invariant-loop b floors min first best₀ max₀ best max = (first ≤ max) × (max ≤ 256) × (best ≡ maxesTried b best₀ min first (max - first))
+invariant-loop b floors min first best₀ max₀ best max = (first ≤ max) × (max ≤ 256) × (best ≡ maxes_tried b best₀ min first (max - first))
 
 abbrev decreases-loop : tie.decreases-loop
 decreases-loop b floors min first best₀ max₀ best max = 256 - max
 
 loop-holds : tie.Need-loop-init invariant-loop decreases-loop
-loop-holds c = (search rules, search rules, sym (maxes-none c.args.b.now c.args.start c.args.min c.args.first))
+loop-holds c = (search rules, search rules, sym (maxes_none c.args.b.now c.args.start c.args.min c.args.first))
 
 cast-at : tie.Need-overflow-cast-at invariant-loop decreases-loop
 cast-at c = search rules
@@ -45,7 +45,7 @@ loop-again c =
     let a = h.before.args in (
       omega (arith, h.loop.invariant.0),
       omega (arith, c.before.before.loop-test.true),
-      rw (c.pair-tried.ensures, h.loop.invariant.2) (sym (maxes-more a.b.now a.start a.min a.first h.loop.max h.loop.invariant.0)),
+      rw (c.pair-tried.ensures, h.loop.invariant.2) (sym (maxes_more a.b.now a.start a.min a.first h.loop.max h.loop.invariant.0)),
     )
 
 returns : tie.Need-returns invariant-loop decreases-loop

@@ -1,7 +1,7 @@
 use mathlib.Core.Path.{sym}
 use Prim.Native.Nat.{◌-◌}
 use native.Mathlib.Omega.{arith}
-use Rattle.search.proofs.PassedOver.{maxes-passed}
+use Rattle.search.proofs.PassedOver.{maxes_passed}
 use borrow.Author.Rules.{rules}
 use Rattle.search.proofs.min_tried.Statement.{statement}
 use Rattle.search.proofs.min_tried.Tie as tie
@@ -14,7 +14,7 @@ returns c =
     let k = c.before.before in
     let h = k.before in
     let a = h.args in
-    sym (maxes-passed a.b.now a.best a.min a.first (256 - a.first) h.requires.1 (omega arith) (rw (← k.min-floor.ensures) c.if1.true))
+    sym (maxes_passed a.b.now a.best a.min a.first (256 - a.first) h.requires.1 (omega arith) (rw (← k.min_floor_lem.ensures) c.if1.true))
 
 raised-requires : tie.Need-raised-requires
 raised-requires c κs = search rules

@@ -2,19 +2,19 @@ use mathlib.Core.Path.{◌≡◌, refl, sym}
 use Prim.Native.Nat.{◌≤◌, ◌-◌, ◌+◌}
 use native.Mathlib.Omega.{arith}
 use borrow.Author.Rules.{rules}
-use Rattle.search.specs.Search.{minsTried}
-use Rattle.search.proofs.Steps.{mins-more}
+use Rattle.search.specs.Search.{mins_tried}
+use Rattle.search.proofs.Steps.{mins_more}
 use Rattle.search.proofs.mins_tried.Statement.{statement}
 use Rattle.search.proofs.mins_tried.Tie as tie
 
 abbrev invariant-loop : tie.invariant-loop
-invariant-loop b floors least limit best₀ min₀ best min = (min ≤ limit) × (best ≡ minsTried b least best₀ min)
+invariant-loop b floors least limit best₀ min₀ best min = (min ≤ limit) × (best ≡ mins_tried b least best₀ min)
 
 abbrev decreases-loop : tie.decreases-loop
 decreases-loop b floors least limit best₀ min₀ best min = limit - min
 
 loop-holds : tie.Need-loop-init invariant-loop decreases-loop
-unfolding minsTried
+unfolding mins_tried
 loop-holds c = (search rules, refl)
 
 cast-min-tried : tie.Need-overflow-cast-min-tried invariant-loop decreases-loop
@@ -38,7 +38,7 @@ loop-again c =
     let h = m.before.before in
     let a = h.before.args in (
       omega (arith, m.before.loop-test.true),
-      rw (c.min-tried.ensures, m.first-max.ensures.0, h.loop.invariant.1) (sym (mins-more a.b.now a.least a.start h.loop.min (h.loop.min + 1) (omega arith))),
+      rw (c.min-tried.ensures, m.first-max.ensures.0, h.loop.invariant.1) (sym (mins_more a.b.now a.least a.start h.loop.min (h.loop.min + 1) (omega arith))),
     )
 
 returns : tie.Need-returns invariant-loop decreases-loop

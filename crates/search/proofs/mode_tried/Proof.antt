@@ -1,4 +1,4 @@
-use Rattle.search.specs.Search.{modeTried}
+use Rattle.search.specs.Search.{mode_tried}
 use borrow.Author.Rules.{rules}
 use Rattle.search.proofs.mode_tried.Statement.{statement}
 use Rattle.search.proofs.mode_tried.Tie as tie
@@ -10,13 +10,13 @@ ended-requires : tie.Need-ended-requires
 ended-requires c κs = search rules
 
 returns : tie.Need-returns
-unfolding modeTried
+unfolding mode_tried
 returns c =
     let k = c.before.before.before in
     rw (← k.palette-error.ensures, c.before.if1.true, c.ended.ensures)
 
 returns-2 : tie.Need-returns-2
-unfolding modeTried
+unfolding mode_tried
 returns-2 c = rw (← c.before.before.palette-error.ensures, c.if1.false)
 
 pub mode-tried-spec : {M : Type 1} → statement M

@@ -1,4 +1,4 @@
-use Rattle.palette.proofs.ClosestLaws.{closest6-lt, closest4-lt}
+use Rattle.palette.proofs.ClosestLaws.{closest6_lt, closest4_lt}
 use Rattle.single.specs.Single.{around}
 use borrow.Author.Rules.{rules}
 use Rattle.single.proofs.nearer_palette.Statement.{statement}
@@ -23,10 +23,10 @@ closest-requires-2 : tie.Need-closest-requires-2
 closest-requires-2 c κs = search rules
 
 uniform-requires : tie.Need-uniform-requires
-uniform-requires c κs = rw c.before.before.closest.ensures (closest6-lt _ _)
+uniform-requires c κs = rw c.before.before.closest.ensures (closest6_lt _ _)
 
 uniform-requires-2 : tie.Need-uniform-requires-2
-uniform-requires-2 c κs = rw c.before.closest2.ensures (closest4-lt _ _)
+uniform-requires-2 c κs = rw c.before.closest2.ensures (closest4_lt _ _)
 
 smaller-requires : tie.Need-smaller-requires
 smaller-requires c κs = search rules

@@ -1,5 +1,5 @@
 use Rattle.block.specs.Samples.{tabulate}
-use Rattle.single.specs.Single.{singleColor}
+use Rattle.single.specs.Single.{single_color}
 use borrow.Author.Rules.{rules}
 use Rattle.single.proofs.single_color.Statement.{statement}
 use Rattle.single.proofs.single_color.Tie as tie
@@ -14,7 +14,7 @@ uniform-requires : tie.Need-uniform-requires
 uniform-requires c κs = search rules
 
 returns : tie.Need-returns
-unfolding singleColor
+unfolding single_color
 returns c = rw (← c.before.before.before.before.new-closest.ensures, ← c.before.before.abs.ensures, c.before.if1.true, c.uniform.ensures)
 
 new-inter6-requires : tie.Need-new-inter6-requires
@@ -24,7 +24,7 @@ ended-requires : tie.Need-ended-requires
 ended-requires c κs = search rules
 
 returns-2 : tie.Need-returns-2
-unfolding singleColor tabulate
+unfolding single_color tabulate
 returns-2 c =
     let e = c.before.before in
     let d = e.before in
@@ -35,7 +35,7 @@ nearer-palette-requires : tie.Need-nearer-palette-requires
 nearer-palette-requires c κs = search rules
 
 returns-3 : tie.Need-returns-3
-unfolding singleColor
+unfolding single_color
 returns-3 c =
     let d = c.before in
     let k = d.before.before in

@@ -5,8 +5,8 @@ use native.Mathlib.Omega.{arith}
 use lib.ListN.{length-take, length-drop}
 use lib.Seq.{drop-drop}
 use borrow.Author.Rules.{rules}
-use Rattle.place.specs.Place.{bc4Size}
-use Rattle.place.proofs.Joined.{all-copied}
+use Rattle.place.specs.Place.{bc4_size}
+use Rattle.place.proofs.Joined.{all_copied}
 use Rattle.station.proofs.put.Statement.{statement}
 use Rattle.station.proofs.put.Tie as tie
 
@@ -44,9 +44,9 @@ returns : tie.Need-returns
 returns c =
     let copy = c.before.before.before in
     let a = copy.before.before.before.before.before.args in
-    let more : a.at + bc4Size - a.at ≡ bc4Size = omega arith in
-    let copied = copy.copy.ensures.1 ∙ all-copied a.block.now _ (simp (length-take, length-drop) (omega arith)) in
-    (rw (copied, more, drop-drop bc4Size a.at a.tile.now), rw c.entry_of.ensures)
+    let more : a.at + bc4_size - a.at ≡ bc4_size = omega arith in
+    let copied = copy.copy.ensures.1 ∙ all_copied a.block.now _ (simp (length-take, length-drop) (omega arith)) in
+    (rw (copied, more, drop-drop bc4_size a.at a.tile.now), rw c.entry_of.ensures)
 
 pub put_spec : {M : Type 1} → statement M
 put_spec =

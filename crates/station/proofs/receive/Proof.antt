@@ -4,13 +4,13 @@ use Prim.Native.Nat.{◌+◌, ◌-◌, ◌*◌, ◌<◌, ◌≤◌}
 use native.Mathlib.Omega.{arith}
 use lib.ListN.{length, length-take, length-drop}
 use borrow.Author.Rules.{rules}
-use Rattle.place.specs.Place.{longestSide, bc4Size}
+use Rattle.place.specs.Place.{longest_side, bc4_size}
 use Rattle.refusal.specs.declared.Checked.TheVariants.{Passed}
 use Rattle.refusal.specs.Refusals.{first_of}
-use Rattle.refusal.proofs.Firsts.{refused-before, passed-before}
+use Rattle.refusal.proofs.Firsts.{refused_before, passed_before}
 use Rattle.station.specs.Editions.{message, holding}
-use Rattle.station.specs.Receiving.{shapeChecks, receiveAnswer}
-use Rattle.station.proofs.Room.{Room, room as message-room}
+use Rattle.station.specs.Receiving.{shape_checks, receive_answer}
+use Rattle.station.proofs.Room.{Room, room as message_room}
 use Rattle.station.proofs.receive.Statement.{statement}
 use Rattle.station.proofs.receive.Tie as tie
 
@@ -24,12 +24,12 @@ enum_told : tie.Need-enum-told
 enum_told c = search rules
 
 passed : (t : tie.After-enum-told) → let a = t.before.before.before.before.before.before.args in
-    first_of (shapeChecks (length a.tile.now) (length a.editions.now) (length a.block.now) a.width a.height a.column a.row) ≡ Passed
+    first_of (shape_checks (length a.tile.now) (length a.editions.now) (length a.block.now) a.width a.height a.column a.row) ≡ Passed
 passed t = sym t.before.before.message.ensures ∙ t.enum_told.given.1
 
 room : (t : tie.After-enum-told) → let a = t.before.before.before.before.before.before.args in
     Room (length a.tile.now) (length a.editions.now) (length a.block.now) a.width a.height a.column a.row
-room t = message-room _ _ _ _ _ _ _ (passed t)
+room t = message_room _ _ _ _ _ _ _ (passed t)
 
 block-at-requires : tie.Need-block-at-requires
 block-at-requires c κs = let r = room c in (r.few, omega (arith, r.bytes, r.small))
@@ -62,18 +62,18 @@ answer-requires c κs =
     (simp (length-take, length-drop) (omega (arith, r.bytes, at.block_at.ensures)), r.eight)
 
 said : (c : tie.After-answer) → let a = c.before.before.before.before.before.before.before.before.before.before.before.before.args in
-    c.answer.result ≡ receiveAnswer (holding a.tile.now a.editions.now) a.width a.height (message a.column a.row a.edition a.block.now)
+    c.answer.result ≡ receive_answer (holding a.tile.now a.editions.now) a.width a.height (message a.column a.row a.edition a.block.now)
 said c =
     let at = c.before.before.before.before.before in
     let entry = c.before.before.before.before in
-    let more : at.block_at.result + bc4Size - at.block_at.result ≡ bc4Size = omega arith in
-    rw (passed-before (shapeChecks _ _ _ _ _ _ _) _ (passed at.before), ← at.block_at.ensures, ← entry.block-at2.ensures) (rw more at c.answer.ensures)
+    let more : at.block_at.result + bc4_size - at.block_at.result ≡ bc4_size = omega arith in
+    rw (passed_before (shape_checks _ _ _ _ _ _ _) _ (passed at.before), ← at.block_at.ensures, ← entry.block-at2.ensures) (rw more at c.answer.ensures)
 
 -- where the message goes is in the tile and in the record
 place : (c : tie.After-answer) → let a = c.before.before.before.before.before.before.before.before.before.before.before.before.args in
     let at = c.before.before.before.before.before.block_at.result in
     let entry = c.before.before.before.before.block-at2.result in
-    (length a.block.now ≡ bc4Size) × (at + bc4Size ≤ length a.tile.now) × (length a.tile.now ≤ longestSide * longestSide) × (entry < length a.editions.now)
+    (length a.block.now ≡ bc4_size) × (at + bc4_size ≤ length a.tile.now) × (length a.tile.now ≤ longest_side * longest_side) × (entry < length a.editions.now)
 place c =
     let at = c.before.before.before.before.before in
     let r = room at.before in
@@ -86,7 +86,7 @@ put-requires : tie.Need-put-requires
 put-requires c κs = place c.before.before.before.before
 
 returns : tie.Need-returns
-returns c = (rw (refused-before (shapeChecks _ _ _ _ _ _ _) _ (sym c.before.before.before.message.ensures ∙ c.before.checked.given.1)), (refl, refl))
+returns c = (rw (refused_before (shape_checks _ _ _ _ _ _ _) _ (sym c.before.before.before.message.ensures ∙ c.before.checked.given.1)), (refl, refl))
 
 same_length : tie.Need-same-length
 same_length c = search rules

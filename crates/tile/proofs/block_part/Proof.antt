@@ -1,7 +1,7 @@
 use mathlib.Core.Path.{◌≡◌}
 use Prim.Native.Nat.{◌+◌, ◌-◌}
 use native.Mathlib.Omega.{arith}
-use Rattle.place.specs.Place.{blockAt}
+use Rattle.place.specs.Place.{block_at}
 use borrow.Author.Rules.{rules}
 use Rattle.tile.proofs.block_part.Statement.{statement}
 use Rattle.tile.proofs.block_part.Tie as tie
@@ -24,7 +24,7 @@ part-result-end c = search rules
 returns : tie.Need-returns
 returns c =
     let a = c.before.before.before.args in
-    let at = blockAt a.size a.width a.column a.row in
+    let at = block_at a.size a.width a.column a.row in
     let long : at + a.size - at ≡ a.size = omega arith in
     rw (c.before.block_at.ensures, long)
 

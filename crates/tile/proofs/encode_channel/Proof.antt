@@ -5,17 +5,17 @@ use Prim.Native.Nat.{ℕ, ◌*◌, ◌-◌, ◌<◌, ◌≤◌}
 use native.Mathlib.Omega.{arith}
 use lib.ListN.{take, drop, length-take, length-drop}
 use borrow.Author.Rules.{rules}
-use Rattle.place.specs.Place.{longestSide, along, encodedLength, blockAt, rowBytes}
-use Rattle.place.proofs.Places.{RowRoom, size-good, bytes_small, rows-length, row_room}
-use Rattle.place.proofs.Joined.{joined-ext, Grown, grown-start, grown-rest, grown-step, row-length}
-use Rattle.tile.specs.Tile.{blockBytes, blockIn, laidIn, channelBlock}
-use Rattle.tile.proofs.Blocks.{block-of-row, laid-in-length}
+use Rattle.place.specs.Place.{longest_side, along, encoded_length, block_at, row_bytes}
+use Rattle.place.proofs.Places.{RowRoom, size_good, bytes_small, rows_length, row_room}
+use Rattle.place.proofs.Joined.{joined_ext, Grown, grown_start, grown_rest, grown_step, row_length}
+use Rattle.tile.specs.Tile.{block_bytes, block_in, laid_in, channel_block}
+use Rattle.tile.proofs.Blocks.{block_of_row, laid_in_length}
 use Rattle.tile.proofs.encode_channel.Statement.{statement}
 use Rattle.tile.proofs.encode_channel.Tie as tie
 
 abbrev invariant-loop : tie.invariant-loop
 invariant-loop samples size start width height o out₀ row₀ row-end out row =
-    (row ≤ along height) × Grown (rowBytes (channelBlock samples size start width o out₀) width) (along width * size) out₀ out row
+    (row ≤ along height) × Grown (row_bytes (channel_block samples size start width o out₀) width) (along width * size) out₀ out row
 
 abbrev decreases-loop : tie.decreases-loop
 decreases-loop samples size start width height o out₀ row₀ row-end out row = along height - row
@@ -24,11 +24,11 @@ decreases-loop samples size start width height o out₀ row₀ row-end out row =
 room : (c : tie.In-loop invariant-loop decreases-loop) → let a = c.before.before.before.before.args in RowRoom a.size a.width a.height c.before.loop.row
 room c = let s = c.before.before.before.before in row_room _ _ s.requires.2 _ _ (search rules)
 
-small : (c : tie.In-loop invariant-loop decreases-loop) → let a = c.before.before.before.before.args in encodedLength a.size a.width a.height ≤ longestSide * longestSide
+small : (c : tie.In-loop invariant-loop decreases-loop) → let a = c.before.before.before.before.args in encoded_length a.size a.width a.height ≤ longest_side * longest_side
 small c = let s = c.before.before.before.before in (bytes_small _ _ s.requires.2 s.requires.0).1
 
 loop-holds : tie.Need-loop-init invariant-loop decreases-loop
-loop-holds c = (search rules, grown-start)
+loop-holds c = (search rules, grown_start)
 
 block-at-requires : tie.Need-block-at-requires invariant-loop decreases-loop
 block-at-requires c κs = let r = room c in let s = small c in (omega arith, omega arith)
@@ -53,7 +53,7 @@ encode-stretch-requires c κs =
     let turn = c.before.before.before in
     let r = room turn in
     let s = turn.before.before.before.before in
-    (s.requires.0, s.requires.1, (size-good _ _ s.requires.2).0.short, omega arith, simp (length-take, length-drop) (omega arith))
+    (s.requires.0, s.requires.1, (size_good _ _ s.requires.2).0.short, omega arith, simp (length-take, length-drop) (omega arith))
 
 add_row : tie.Need-overflow-add-row invariant-loop decreases-loop
 add_row c = search rules
@@ -74,13 +74,13 @@ loop-again c =
     let row = turn.before.loop.row in
     let out = turn.before.loop.out in
     let g = turn.before.loop.invariant.1 in
-    let bytes : ℕ → ℕ → List ℕ = blockBytes a.samples.now a.width a.o in
-    let each = row-length (channelBlock a.samples.now a.size a.start a.width a.o old) a.size a.width (λ column row. laid-in-length old a.size (blockAt a.size a.width column row) a.start (bytes column row) refl s.requires.1) in
+    let bytes : ℕ → ℕ → List ℕ = block_bytes a.samples.now a.width a.o in
+    let each = row_length (channel_block a.samples.now a.size a.start a.width a.o old) a.size a.width (λ column row. laid_in_length old a.size (block_at a.size a.width column row) a.start (bytes column row) refl s.requires.1) in
     let here : at ≡ row * (along a.width * a.size) = omega (arith, r.start) in
     let long : many ≡ along a.width * a.size = omega arith in
-    let lent : (column : ℕ) → column < along a.width → blockIn (take many (drop at out)) a.size (column * a.size) ≡ blockIn old a.size (blockAt a.size a.width column row) = λ column h. rw (grown-rest each g at here) (block-of-row old a.size a.width column row at many h here long (omega arith)) in
-    let made = c.before.before.encode-stretch.ensures ∙ joined-ext _ _ (along a.width) (λ column h. ap (λ b. laidIn b a.start (bytes column row)) (lent column h)) in
-    (search rules, grown-step each g at many _ here long made (omega arith))
+    let lent : (column : ℕ) → column < along a.width → block_in (take many (drop at out)) a.size (column * a.size) ≡ block_in old a.size (block_at a.size a.width column row) = λ column h. rw (grown_rest each g at here) (block_of_row old a.size a.width column row at many h here long (omega arith)) in
+    let made = c.before.before.encode-stretch.ensures ∙ joined_ext _ _ (along a.width) (λ column h. ap (λ b. laid_in b a.start (bytes column row)) (lent column h)) in
+    (search rules, grown_step each g at many _ here long made (omega arith))
 
 same_length : tie.Need-same-length invariant-loop decreases-loop
 same_length c = search rules
@@ -90,7 +90,7 @@ returns c =
     let h = c.before in
     let s = h.before.before.before in
     let e : h.loop.row ≡ along s.args.height = omega arith in
-    h.loop.invariant.1.same ∙ rw (e, rows-length _ _ s.requires.2 s.args.size)
+    h.loop.invariant.1.same ∙ rw (e, rows_length _ _ s.requires.2 s.args.size)
 
 pub encode-channel-spec : {M : Type 1} → statement M
 encode-channel-spec =

@@ -4,9 +4,9 @@ use native.Mathlib.Omega.{arith}
 use lib.ListN.{length-take, length-drop}
 use Rattle.index_list.specs.Layout.{bytes_of}
 use Rattle.encode.specs.Encoder.{compressed}
-use Rattle.place.specs.Place.{bc4Size}
-use Rattle.place.proofs.Joined.{all-copied}
-use Rattle.tile.specs.Tile.{laidIn}
+use Rattle.place.specs.Place.{bc4_size}
+use Rattle.place.proofs.Joined.{all_copied}
+use Rattle.tile.specs.Tile.{laid_in}
 use borrow.Author.Rules.{rules}
 use Rattle.tile.proofs.encode_half.Statement.{statement}
 use Rattle.tile.proofs.encode_half.Tie as tie
@@ -42,14 +42,14 @@ same_length : tie.Need-same-length
 same_length c = search rules
 
 returns : tie.Need-returns
-unfolding laidIn
+unfolding laid_in
 returns c =
     let coded = c.before.before.before.before.before in
     let gathered = coded.before.before.before in
     let a = gathered.before.before.before.args in
-    let long : a.start + bc4Size - a.start ≡ bc4Size = omega arith in
+    let long : a.start + bc4_size - a.start ≡ bc4_size = omega arith in
     let block = coded.before.compress-bc4-block.ensures ∙ ap (λ b. compressed b a.o) gathered.gather.ensures in
-    let made = c.before.before.copy.ensures.1 ∙ all-copied _ _ (simp (length-take, length-drop) (omega arith)) ∙ coded.bytes.ensures ∙ ap bytes_of block in
+    let made = c.before.before.copy.ensures.1 ∙ all_copied _ _ (simp (length-take, length-drop) (omega arith)) ∙ coded.bytes.ensures ∙ ap bytes_of block in
     rw (long, made)
 
 pub encode-half-spec : {M : Type 1} → statement M

@@ -9,43 +9,43 @@ use lib.Seq.{drop_at}
 use lib.Ieee.{Float}
 use borrow.Author.Rules.{rules}
 use Rattle.options.specs.declared.Options.{Options}
-use Rattle.place.specs.Place.{badSize, along, bc4Size, bc5Size, encodedLength, blockAt, all_bytes}
-use Rattle.place.proofs.Places.{rows-length, block_within}
-use Rattle.place.proofs.Joined.{in-first, all-ext, all-length, block-stands}
-use Rattle.tile.specs.Tile.{blockBytes, pairBytes, blockIn, laidIn, channelBlock}
-use Rattle.tile.proofs.Blocks.{block-length, block_inside, laid-in-length, two-laid}
+use Rattle.place.specs.Place.{bad_size, along, bc4_size, bc5_size, encoded_length, block_at, all_bytes}
+use Rattle.place.proofs.Places.{rows_length, block_within}
+use Rattle.place.proofs.Joined.{in_first, all_ext, all_length, block_stands}
+use Rattle.tile.specs.Tile.{block_bytes, pair_bytes, block_in, laid_in, channel_block}
+use Rattle.tile.proofs.Blocks.{block_length, block_inside, laid_in_length, two_laid}
 use Rattle.tile.proofs.encode_pairs.Statement.{statement}
 use Rattle.tile.proofs.encode_pairs.Tie as tie
 
 module _ (first second : List Float) (width height : ℕ) (o : Options) (old : List ℕ) where
   -- the first pass leaves `done ++ rest`
   abbrev block : ℕ → ℕ → List ℕ
-  block = channelBlock first bc5Size 0 width o old
+  block = channel_block first bc5_size 0 width o old
 
   abbrev done : List ℕ
   done = all_bytes block width height
 
   abbrev rest : List ℕ
-  rest = drop (encodedLength bc5Size width height) old
+  rest = drop (encoded_length bc5_size width height) old
 
-  each : (column row : ℕ) → length (block column row) ≡ bc5Size
-  each column row = laid-in-length old bc5Size (blockAt bc5Size width column row) 0 (blockBytes first width o column row) refl (omega arith)
+  each : (column row : ℕ) → length (block column row) ≡ bc5_size
+  each column row = laid_in_length old bc5_size (block_at bc5_size width column row) 0 (block_bytes first width o column row) refl (omega arith)
 
   -- what the second pass leaves of that
   abbrev again : List ℕ → List ℕ
-  again out = all_bytes (channelBlock second bc5Size bc4Size width o out) width height ++ drop (encodedLength bc5Size width height) out
+  again out = all_bytes (channel_block second bc5_size bc4_size width o out) width height ++ drop (encoded_length bc5_size width height) out
 
-  both : badSize width height ≡ false → again (done ++ rest) ≡ all_bytes (pairBytes first second width o) width height ++ rest
-  both good = rw (all-ext _ _ width height pair, drop_at done rest (encodedLength bc5Size width height) long) where
-    long : length done ≡ encodedLength bc5Size width height
-    long = all-length block bc5Size width each height ∙ rows-length width height good bc5Size
+  both : bad_size width height ≡ false → again (done ++ rest) ≡ all_bytes (pair_bytes first second width o) width height ++ rest
+  both good = rw (all_ext _ _ width height pair, drop_at done rest (encoded_length bc5_size width height) long) where
+    long : length done ≡ encoded_length bc5_size width height
+    long = all_length block bc5_size width each height ∙ rows_length width height good bc5_size
 
-    pair : (column row : ℕ) → column < along width → row < along height → channelBlock second bc5Size bc4Size width o (done ++ rest) column row ≡ pairBytes first second width o column row
+    pair : (column row : ℕ) → column < along width → row < along height → channel_block second bc5_size bc4_size width o (done ++ rest) column row ≡ pair_bytes first second width o column row
     pair column row h k =
-        let at = blockAt bc5Size width column row in
-        let within = block_within width height good bc5Size column row h k in
-        let left : blockIn (done ++ rest) bc5Size at ≡ block column row = block_inside (done ++ rest) bc5Size at (simp length-append (omega (arith, long))) ∙ in-first done rest bc5Size at (omega (arith, long)) ∙ block-stands block bc5Size width each height column row h k in
-        ap (λ b. laidIn b bc4Size (blockBytes second width o column row)) left ∙ two-laid (blockIn old bc5Size at) (blockBytes first width o column row) (blockBytes second width o column row) refl (block-length old bc5Size at)
+        let at = block_at bc5_size width column row in
+        let within = block_within width height good bc5_size column row h k in
+        let left : block_in (done ++ rest) bc5_size at ≡ block column row = block_inside (done ++ rest) bc5_size at (simp length-append (omega (arith, long))) ∙ in_first done rest bc5_size at (omega (arith, long)) ∙ block_stands block bc5_size width each height column row h k in
+        ap (λ b. laid_in b bc4_size (block_bytes second width o column row)) left ∙ two_laid (block_in old bc5_size at) (block_bytes first width o column row) (block_bytes second width o column row) refl (block_length old bc5_size at)
 
 encode-channel-requires : tie.Need-encode-channel-requires
 encode-channel-requires c κs = let p = c.before.before.before.before.requires in (omega arith, omega arith, p.0, p.1, p.3)

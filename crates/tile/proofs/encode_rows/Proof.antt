@@ -5,10 +5,10 @@ use Prim.Native.Nat.{ℕ}
 use native.Mathlib.Omega.{arith}
 use lib.ListN.{drop}
 use borrow.Author.Rules.{rules}
-use Rattle.place.specs.Place.{bc4Size, encodedLength, blockAt}
-use Rattle.place.proofs.Joined.{all-ext}
-use Rattle.tile.specs.Tile.{blockBytes}
-use Rattle.tile.proofs.Blocks.{block-length, one-laid}
+use Rattle.place.specs.Place.{bc4_size, encoded_length, block_at}
+use Rattle.place.proofs.Joined.{all_ext}
+use Rattle.tile.specs.Tile.{block_bytes}
+use Rattle.tile.proofs.Blocks.{block_length, one_laid}
 use Rattle.tile.proofs.encode_rows.Statement.{statement}
 use Rattle.tile.proofs.encode_rows.Tie as tie
 
@@ -22,9 +22,9 @@ returns : tie.Need-returns
 returns c =
     let a = c.before.before.before.before.before.before.args in
     let old = a.out.now in
-    let block : ℕ → ℕ → List ℕ = blockBytes a.samples.now a.width a.o in
-    let only = all-ext _ block a.width a.height (λ column row h k. one-laid _ (block column row) (block-length old bc4Size (blockAt bc4Size a.width column row))) in
-    c.before.before.encode-channel.ensures ∙ ap (λ bytes. bytes ++ drop (encodedLength bc4Size a.width a.height) old) only
+    let block : ℕ → ℕ → List ℕ = block_bytes a.samples.now a.width a.o in
+    let only = all_ext _ block a.width a.height (λ column row h k. one_laid _ (block column row) (block_length old bc4_size (block_at bc4_size a.width column row))) in
+    c.before.before.encode-channel.ensures ∙ ap (λ bytes. bytes ++ drop (encoded_length bc4_size a.width a.height) old) only
 
 pub encode-rows-spec : {M : Type 1} → statement M
 encode-rows-spec = tie.close (tie.spec encode-channel-requires same_length returns)

@@ -1,5 +1,5 @@
-use Rattle.refusal.specs.Refusals.{encodeChecks}
-use Rattle.refusal.proofs.Firsts.{word-last}
+use Rattle.refusal.specs.Refusals.{encode_checks}
+use Rattle.refusal.proofs.Firsts.{word_last}
 use borrow.Author.Rules.{rules}
 use Rattle.bc4.proofs.word.encode_block.Statement.{statement}
 use Rattle.bc4.proofs.word.encode_block.Tie as tie
@@ -13,13 +13,13 @@ or-malformed-requires c κs = search rules
 returns : tie.Need-returns
 returns c =
     let a = c.before.before.before.before.args in
-    rw (word-last (encodeChecks a.samples.now) _, c.before.before.if1.true, c.or-malformed.ensures, c.before.encode.ensures)
+    rw (word_last (encode_checks a.samples.now) _, c.before.before.if1.true, c.or-malformed.ensures, c.before.encode.ensures)
 
 encode-block-requires : tie.Need-encode-block-requires
 encode-block-requires c κs = search rules
 
 returns-2 : tie.Need-returns-2
-returns-2 c = let a = c.before.before.before.args in rw (word-last (encodeChecks a.samples.now) _, c.before.if1.false) c.encode-block.ensures
+returns-2 c = let a = c.before.before.before.args in rw (word_last (encode_checks a.samples.now) _, c.before.if1.false) c.encode-block.ensures
 
 pub encode-block-spec : {M : Type 1} → statement M
 encode-block-spec =

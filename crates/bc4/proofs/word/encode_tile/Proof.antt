@@ -1,7 +1,7 @@
 use mathlib.Core.Path.{refl}
 use lib.ListN.{length}
-use Rattle.refusal.specs.Refusals.{tileChecks}
-use Rattle.refusal.proofs.Firsts.{word-last}
+use Rattle.refusal.specs.Refusals.{tile_checks}
+use Rattle.refusal.proofs.Firsts.{word_last}
 use borrow.Author.Rules.{rules}
 use Rattle.bc4.proofs.word.encode_tile.Statement.{statement}
 use Rattle.bc4.proofs.word.encode_tile.Tie as tie
@@ -15,7 +15,7 @@ or-malformed-requires c κs = search rules
 returns : tie.Need-returns
 returns c =
     let a = c.before.before.before.before.before.args in
-    (rw (word-last (tileChecks a.samples.now a.width a.height (length a.out.now)) _, c.before.before.if1.true, c.or-malformed.ensures, c.before.tile.ensures), refl)
+    (rw (word_last (tile_checks a.samples.now a.width a.height (length a.out.now)) _, c.before.before.if1.true, c.or-malformed.ensures, c.before.tile.ensures), refl)
 
 encode-tile-requires : tie.Need-encode-tile-requires
 encode-tile-requires c κs = search rules
@@ -26,7 +26,7 @@ same_length c = search rules
 returns-2 : tie.Need-returns-2
 returns-2 c =
     let a = c.before.before.before.before.before.before.before.args in
-    (rw (word-last (tileChecks a.samples.now a.width a.height (length a.out.now)) _, c.before.before.before.before.if1.false) c.before.before.encode-tile.ensures.0, c.before.before.encode-tile.ensures.1)
+    (rw (word_last (tile_checks a.samples.now a.width a.height (length a.out.now)) _, c.before.before.before.before.if1.false) c.before.before.encode-tile.ensures.0, c.before.before.encode-tile.ensures.1)
 
 pub encode-tile-spec : {M : Type 1} → statement M
 encode-tile-spec =

@@ -1,8 +1,8 @@
 use mathlib.Core.Path.{sym, ◌∙◌}
 use mathlib.Core.List.{[], ◌∷◌}
 use Rattle.refusal.specs.declared.Channel.TheVariants.{First, Second}
-use Rattle.refusal.specs.Refusals.{nanIn}
-use Rattle.refusal.proofs.Firsts.{refused-before, passed-before}
+use Rattle.refusal.specs.Refusals.{nan_in}
+use Rattle.refusal.proofs.Firsts.{refused_before, passed_before}
 use borrow.Author.Rules.{rules}
 use Rattle.bc5.proofs.checks.no_nans.Statement.{statement}
 use Rattle.bc5.proofs.checks.no_nans.Tie as tie
@@ -22,12 +22,12 @@ no-nan-in-requires-2 c κs = search rules
 returns : tie.Need-returns
 returns c =
     let a = c.before.before.before.before.before.before.args in
-    sym (refused-before (nanIn First a.first.now ∷ []) (nanIn Second a.second.now ∷ []) (sym c.before.before.before.no-nan-in.ensures ∙ c.before.checked.given.1))
+    sym (refused_before (nan_in First a.first.now ∷ []) (nan_in Second a.second.now ∷ []) (sym c.before.before.before.no-nan-in.ensures ∙ c.before.checked.given.1))
 
 returns-2 : tie.Need-returns-2
 returns-2 c =
     let a = c.before.before.before.before.before.before.args in
-    c.no-nan-in2.ensures ∙ sym (passed-before (nanIn First a.first.now ∷ []) (nanIn Second a.second.now ∷ []) (sym c.before.before.before.no-nan-in.ensures ∙ c.before.enum_told.given.1))
+    c.no-nan-in2.ensures ∙ sym (passed_before (nan_in First a.first.now ∷ []) (nan_in Second a.second.now ∷ []) (sym c.before.before.before.no-nan-in.ensures ∙ c.before.enum_told.given.1))
 
 pub no-nans-spec : {M : Type 1} → statement M
 no-nans-spec =

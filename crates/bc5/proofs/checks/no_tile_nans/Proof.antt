@@ -1,8 +1,8 @@
 use mathlib.Core.Path.{sym, ◌∙◌}
 use mathlib.Core.List.{[], ◌∷◌}
 use Rattle.refusal.specs.declared.Channel.TheVariants.{First, Second}
-use Rattle.refusal.specs.Refusals.{tileNanIn}
-use Rattle.refusal.proofs.Firsts.{refused-before, passed-before}
+use Rattle.refusal.specs.Refusals.{tile_nan_in}
+use Rattle.refusal.proofs.Firsts.{refused_before, passed_before}
 use borrow.Author.Rules.{rules}
 use Rattle.bc5.proofs.checks.no_tile_nans.Statement.{statement}
 use Rattle.bc5.proofs.checks.no_tile_nans.Tie as tie
@@ -22,12 +22,12 @@ no-tile-nan-in-requires-2 c κs = search rules
 returns : tie.Need-returns
 returns c =
     let a = c.before.before.before.before.before.before.args in
-    sym (refused-before (tileNanIn First a.first.now a.width ∷ []) (tileNanIn Second a.second.now a.width ∷ []) (sym c.before.before.before.no-tile-nan-in.ensures ∙ c.before.checked.given.1))
+    sym (refused_before (tile_nan_in First a.first.now a.width ∷ []) (tile_nan_in Second a.second.now a.width ∷ []) (sym c.before.before.before.no-tile-nan-in.ensures ∙ c.before.checked.given.1))
 
 returns-2 : tie.Need-returns-2
 returns-2 c =
     let a = c.before.before.before.before.before.before.args in
-    c.no-tile-nan-in2.ensures ∙ sym (passed-before (tileNanIn First a.first.now a.width ∷ []) (tileNanIn Second a.second.now a.width ∷ []) (sym c.before.before.before.no-tile-nan-in.ensures ∙ c.before.enum_told.given.1))
+    c.no-tile-nan-in2.ensures ∙ sym (passed_before (tile_nan_in First a.first.now a.width ∷ []) (tile_nan_in Second a.second.now a.width ∷ []) (sym c.before.before.before.no-tile-nan-in.ensures ∙ c.before.enum_told.given.1))
 
 pub no-tile-nans-spec : {M : Type 1} → statement M
 no-tile-nans-spec =

@@ -2,7 +2,7 @@ use mathlib.Core.Path.{sym}
 use Prim.Native.Nat.{◌%◌}
 use native.Mathlib.Omega.{arith}
 use borrow.Author.Tests.{ltb-true, lt-ltb, le-ltb}
-use Rattle.bcn_util.proofs.DitherLaws.{diffused-above, diffused-last}
+use Rattle.bcn_util.proofs.DitherLaws.{diffused_above, diffused_last}
 use borrow.Author.Rules.{rules}
 use Rattle.bcn_util.proofs.dither.diffuse.Statement.{statement}
 use Rattle.bcn_util.proofs.dither.diffuse.Tie as tie
@@ -51,7 +51,7 @@ returns c =
       g1.give.ensures,
       g1.before.part.ensures,
       t.before.requires.1,
-    ) (sym (diffused-above a.m.now a.i a.error (lt-ltb _ _ t.if1.true)))
+    ) (sym (diffused_above a.m.now a.i a.error (lt-ltb _ _ t.if1.true)))
 
 part-requires-5 : tie.Need-part-requires-5
 part-requires-5 c κs = search rules
@@ -63,7 +63,7 @@ returns-2 : tie.Need-returns-2
 returns-2 c =
     let t = c.before.before.before in
     let a = t.before.args in
-    rw (c.give5.ensures, c.before.part5.ensures, t.before.requires.1) (sym (diffused-last a.m.now a.i a.error (le-ltb _ _ t.if1.false)))
+    rw (c.give5.ensures, c.before.part5.ensures, t.before.requires.1) (sym (diffused_last a.m.now a.i a.error (le-ltb _ _ t.if1.false)))
 
 pub diffuse-spec : {M : Type 1} → statement M
 diffuse-spec =

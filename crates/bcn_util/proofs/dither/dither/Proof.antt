@@ -4,10 +4,10 @@ use native.Mathlib.Omega.{arith}
 use Prim.Native.Nat.{◌≤◌, ◌-◌}
 use borrow.Author.Rules.{rules}
 use Rattle.block.specs.Samples.{tabulate}
-use Rattle.palette.proofs.ClosestLaws.{closest6-lt, closest4-lt, closest6-squared}
+use Rattle.palette.proofs.ClosestLaws.{closest6_lt, closest4_lt, closest6_squared}
 use Rattle.bcn_util.specs.Diffusion.{weights}
-use Rattle.bcn_util.specs.Dither.{ditherTo}
-use Rattle.bcn_util.proofs.DitherLaws.{Reached, reached-unset, reached-step}
+use Rattle.bcn_util.specs.Dither.{dither_to}
+use Rattle.bcn_util.proofs.DitherLaws.{Reached, reached_unset, reached_step}
 use Rattle.bcn_util.proofs.dither.dither.Statement.{statement}
 use Rattle.bcn_util.proofs.dither.dither.Tie as tie
 
@@ -27,8 +27,8 @@ new-empty-requires : tie.Need-new-empty-requires invariant-loop decreases-loop
 new-empty-requires c κs = search rules
 
 loop-holds : tie.Need-loop-init invariant-loop decreases-loop
-unfolding tabulate ditherTo
-loop-holds c = (search rules, record { map_is = refl; done-is = rw c.new-empty.ensures })
+unfolding tabulate dither_to
+loop-holds c = (search rules, record { map_is = refl; done_is = rw c.new-empty.ensures })
 
 asked-requires : tie.Need-asked-requires invariant-loop decreases-loop
 asked-requires c κs = search rules
@@ -42,7 +42,7 @@ closest-requires c κs = search rules
 set-requires : tie.Need-set-requires invariant-loop decreases-loop
 set-requires c κs =
     let k = c.before.before.before.before in
-    (search rules, rw c.closest.ensures (closest6-lt _ _), reached-unset k.before.before.before.loop.invariant.1)
+    (search rules, rw c.closest.ensures (closest6_lt _ _), reached_unset k.before.before.before.loop.invariant.1)
 
 diffuse-requires : tie.Need-diffuse-requires invariant-loop decreases-loop
 unfolding weights
@@ -57,7 +57,7 @@ closest-requires-2 c κs = search rules
 set-requires-2 : tie.Need-set-requires-2 invariant-loop decreases-loop
 set-requires-2 c κs =
     let k = c.before.before.before in
-    (search rules, rw c.closest2.ensures (closest4-lt _ _), reached-unset k.before.before.before.loop.invariant.1)
+    (search rules, rw c.closest2.ensures (closest4_lt _ _), reached_unset k.before.before.before.loop.invariant.1)
 
 diffuse-requires-2 : tie.Need-diffuse-requires-2 invariant-loop decreases-loop
 unfolding weights
@@ -74,10 +74,10 @@ loop-again c =
     let k = c.before in
     let s = k.before.before.before in
     let p = s.before.before in
-    let step = reached-step s.loop.invariant.1 in (
+    let step = reached_step s.loop.invariant.1 in (
       search rules,
       ⊎_elim
-          (λ w. rw (w.9, w.10, w.11, w.8.ensures, w.4.ensures, k.asked.ensures) (step w.3.result _ (rw (w.3.ensures, k.asked.ensures, p.before.new.ensures, w.1.given.1)) (rw (w.3.ensures, k.asked.ensures) (closest6-squared _ _))))
+          (λ w. rw (w.9, w.10, w.11, w.8.ensures, w.4.ensures, k.asked.ensures) (step w.3.result _ (rw (w.3.ensures, k.asked.ensures, p.before.new.ensures, w.1.given.1)) (rw (w.3.ensures, k.asked.ensures) (closest6_squared _ _))))
           (λ w. rw (w.9, w.10, w.11, w.8.ensures, w.3.ensures, k.asked.ensures) (step w.2.result _ (rw (w.2.ensures, k.asked.ensures, p.new2.ensures, w.1.given.1)) refl))
           c.match.branch,
     )
@@ -85,7 +85,7 @@ loop-again c =
 returns : tie.Need-returns invariant-loop decreases-loop
 returns c =
     let e : c.before.loop.i ≡ 16 = omega arith in
-    rw (c.before.loop.invariant.1.done-is, e)
+    rw (c.before.loop.invariant.1.done_is, e)
 
 pub dither-spec : {M : Type 1} → statement M
 dither-spec =

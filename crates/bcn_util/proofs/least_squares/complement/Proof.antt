@@ -3,7 +3,7 @@ use Prim.Native.Nat.{ℕ, ◌-◌}
 use native.Mathlib.Omega.{arith}
 use lib.Ieee.{nan}
 use borrow.Author.Rules.{rules}
-use Rattle.block.specs.Samples.{pixelAt}
+use Rattle.block.specs.Samples.{pixel_at}
 use Rattle.block.proofs.Fill.{Filled, fill_start, fill_step, fill_end}
 use Rattle.floats.specs.Arithmetic.{◌⊖◌, f1}
 use Rattle.bcn_util.specs.LeastSquares.{complement}
@@ -11,7 +11,7 @@ use Rattle.bcn_util.proofs.least_squares.complement.Statement.{statement}
 use Rattle.bcn_util.proofs.least_squares.complement.Tie as tie
 
 abbrev invariant-loop : tie.invariant-loop
-invariant-loop w v₀ i₀ v i = Filled nan (λ (k : ℕ). f1 ⊖ pixelAt w k) 16 v i
+invariant-loop w v₀ i₀ v i = Filled nan (λ (k : ℕ). f1 ⊖ pixel_at w k) 16 v i
 
 abbrev decreases-loop : tie.decreases-loop
 decreases-loop w v₀ i₀ v i = 16 - i

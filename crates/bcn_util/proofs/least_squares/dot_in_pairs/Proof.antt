@@ -3,16 +3,16 @@ use Prim.Native.Nat.{ℕ, ◌-◌}
 use native.Mathlib.Omega.{arith}
 use lib.Ieee.{nan}
 use borrow.Author.Rules.{rules}
-use Rattle.block.specs.Samples.{pixelAt}
+use Rattle.block.specs.Samples.{pixel_at}
 use Rattle.block.proofs.Fill.{Filled, fill_start, fill_step, fill_end}
 use Rattle.floats.specs.Arithmetic.{◌⊗◌}
-use Rattle.block.specs.Orders.{sumInPairs}
-use Rattle.bcn_util.specs.LeastSquares.{dotInPairs}
+use Rattle.block.specs.Orders.{sum_in_pairs}
+use Rattle.bcn_util.specs.LeastSquares.{dot_in_pairs}
 use Rattle.bcn_util.proofs.least_squares.dot_in_pairs.Statement.{statement}
 use Rattle.bcn_util.proofs.least_squares.dot_in_pairs.Tie as tie
 
 abbrev invariant-loop : tie.invariant-loop
-invariant-loop u v e₀ i₀ e i = Filled nan (λ (k : ℕ). pixelAt u k ⊗ pixelAt v k) 16 e i
+invariant-loop u v e₀ i₀ e i = Filled nan (λ (k : ℕ). pixel_at u k ⊗ pixel_at v k) 16 e i
 
 abbrev decreases-loop : tie.decreases-loop
 decreases-loop u v e₀ i₀ e i = 16 - i
@@ -51,8 +51,8 @@ sum-in-pairs-requires : tie.Need-sum-in-pairs-requires invariant-loop decreases-
 sum-in-pairs-requires c κs = search rules
 
 returns : tie.Need-returns invariant-loop decreases-loop
-unfolding dotInPairs
-returns c = c.sum-in-pairs.ensures ∙ ap sumInPairs (fill_end c.before.before.before.loop.invariant (omega arith))
+unfolding dot_in_pairs
+returns c = c.sum-in-pairs.ensures ∙ ap sum_in_pairs (fill_end c.before.before.before.loop.invariant (omega arith))
 
 pub dot-in-pairs-spec : {M : Type 1} → statement M
 dot-in-pairs-spec =

@@ -1,4 +1,4 @@
-use Rattle.bcn_util.specs.LeastSquares.{leastSquares}
+use Rattle.bcn_util.specs.LeastSquares.{least_squares}
 use borrow.Author.Rules.{rules}
 use Rattle.bcn_util.proofs.least_squares.least_squares.Statement.{statement}
 use Rattle.bcn_util.proofs.least_squares.least_squares.Tie as tie
@@ -19,7 +19,7 @@ dot-in-pairs-requires-2 : tie.Need-dot-in-pairs-requires-2
 dot-in-pairs-requires-2 c κs = search rules
 
 returns : tie.Need-returns
-unfolding leastSquares
+unfolding least_squares
 returns c = rw (c.dot-in-pairs2.ensures, c.before.before.dot-in-pairs.ensures, c.before.before.before.before.line2.ensures, c.before.before.before.before.before.line.ensures, c.before.before.before.before.before.before.matrix.ensures)
 
 pub least-squares-spec : {M : Type 1} → statement M

@@ -3,7 +3,7 @@ use Prim.Native.Nat.{ℕ, ◌-◌}
 use native.Mathlib.Omega.{arith}
 use lib.Ieee.{nan}
 use borrow.Author.Rules.{rules}
-use Rattle.block.specs.Samples.{pixelAt}
+use Rattle.block.specs.Samples.{pixel_at}
 use Rattle.block.proofs.Fill.{Filled, fill_start, fill_step, fill_end}
 use Rattle.floats.specs.Arithmetic.{◌⊕◌, ◌⊗◌}
 use Rattle.bcn_util.specs.LeastSquares.{line}
@@ -11,7 +11,7 @@ use Rattle.bcn_util.proofs.least_squares.line.Statement.{statement}
 use Rattle.bcn_util.proofs.least_squares.line.Tie as tie
 
 abbrev invariant-loop : tie.invariant-loop
-invariant-loop e d w g₀ i₀ g i = Filled nan (λ (k : ℕ). e ⊕ d ⊗ pixelAt w k) 16 g i
+invariant-loop e d w g₀ i₀ g i = Filled nan (λ (k : ℕ). e ⊕ d ⊗ pixel_at w k) 16 g i
 
 abbrev decreases-loop : tie.decreases-loop
 decreases-loop e d w g₀ i₀ g i = 16 - i

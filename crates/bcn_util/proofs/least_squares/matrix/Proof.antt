@@ -1,4 +1,4 @@
-use Rattle.bcn_util.specs.LeastSquares.{matrixOf}
+use Rattle.bcn_util.specs.LeastSquares.{matrix_of}
 use borrow.Author.Rules.{rules}
 use Rattle.bcn_util.proofs.least_squares.matrix.Statement.{statement}
 use Rattle.bcn_util.proofs.least_squares.matrix.Tie as tie
@@ -22,7 +22,7 @@ or-mean-requires : tie.Need-or-mean-requires
 or-mean-requires c κs = search rules
 
 returns : tie.Need-returns
-unfolding matrixOf
+unfolding matrix_of
 returns c = rw (c.or-mean.ensures, c.before.from-d.ensures, c.before.before.dot-in-pairs3.ensures, c.before.before.before.before.before.dot-in-pairs2.ensures, c.before.before.before.before.before.before.before.dot-in-pairs.ensures, c.before.before.before.before.before.before.before.before.complement.ensures)
 
 pub matrix-spec : {M : Type 1} → statement M

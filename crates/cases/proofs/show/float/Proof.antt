@@ -1,6 +1,6 @@
 -- `cases::show::float` is safe and ends: a float that equals itself is no NaN.
 use mathlib.Core.Path.{sym, ◌∙◌}
-use Rattle.floats.proofs.Order.{ne-self}
+use Rattle.floats.proofs.Order.{ne_self}
 use borrow.Author.Rules.{rules}
 use Rattle.cases.proofs.show.float.Statement.{statement}
 use Rattle.cases.proofs.show.float.Tie as tie
@@ -15,7 +15,7 @@ returns : tie.Need-returns
 returns c = search rules
 
 bits-requires : tie.Need-bits-requires
-bits-requires c κs = rw (sym (ne-self _) ∙ c.if1.false) tt
+bits-requires c κs = rw (sym (ne_self _) ∙ c.if1.false) tt
 
 cast-print-hex : tie.Need-overflow-cast-print-hex
 cast-print-hex c = search rules

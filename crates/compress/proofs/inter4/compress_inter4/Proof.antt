@@ -1,4 +1,4 @@
-use Rattle.compress.specs.Inter4.{compressInter4}
+use Rattle.compress.specs.Inter4.{compress_inter4}
 use borrow.Author.Rules.{rules}
 use Rattle.compress.proofs.inter4.compress_inter4.Statement.{statement}
 use Rattle.compress.proofs.inter4.compress_inter4.Tie as tie
@@ -19,7 +19,7 @@ ended-requires : tie.Need-ended-requires
 ended-requires c κs = search rules
 
 returns : tie.Need-returns
-unfolding compressInter4
+unfolding compress_inter4
 returns c =
     let r = c.before.before in
     rw (c.ended.ensures, c.before.new-inter4.ensures, r.refine-endpoints.ensures, r.before.first_ends.ensures, r.before.before.min-max-with-threshold.ensures)

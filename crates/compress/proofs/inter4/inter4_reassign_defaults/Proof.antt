@@ -1,7 +1,7 @@
 use Rattle.compress.specs.Inter4.{reassigned}
 use native.Mathlib.Omega.{arith}
 use borrow.Author.Rules.{rules}
-use Rattle.compress.proofs.Counting.{count-le}
+use Rattle.compress.proofs.Counting.{count_le}
 use Rattle.compress.proofs.inter4.inter4_reassign_defaults.Statement.{statement}
 use Rattle.compress.proofs.inter4.inter4_reassign_defaults.Tie as tie
 
@@ -28,7 +28,7 @@ walked-requires : tie.Need-walked-requires
 walked-requires c κs =
     let to = c.before.before in
     let a = to.before.before.before.before.before.args in
-    (c.before.sorted.ensures, rw to.place-of2.ensures (omega (arith, count-le a.b.now a.p.1 16)))
+    (c.before.sorted.ensures, rw to.place-of2.ensures (omega (arith, count_le a.b.now a.p.1 16)))
 
 returns-2 : tie.Need-returns-2
 unfolding reassigned

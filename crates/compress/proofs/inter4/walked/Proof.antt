@@ -4,7 +4,7 @@ use native.Mathlib.Omega.{arith}
 use borrow.Author.Rules.{rules}
 use borrow.Author.Tests.{not-true, not-false}
 use Rattle.compress.specs.Inter4.{walked}
-use Rattle.compress.proofs.Places.{walked_step, walked-met, walked-failed, walked_none}
+use Rattle.compress.proofs.Places.{walked_step, walked_met, walked_failed, walked_none}
 use Rattle.compress.proofs.inter4.walked.Statement.{statement}
 use Rattle.compress.proofs.inter4.walked.Tie as tie
 
@@ -18,7 +18,7 @@ loop-holds : tie.Need-loop-init invariant-loop decreases-loop
 loop-holds c = (search rules, refl)
 
 returns : tie.Need-returns invariant-loop decreases-loop
-returns c = sym (walked-met _ _ _ _ _ c.if1.true) ∙ c.before.before.loop.invariant.1
+returns c = sym (walked_met _ _ _ _ _ c.if1.true) ∙ c.before.before.loop.invariant.1
 
 candidate-requires : tie.Need-candidate-requires invariant-loop decreases-loop
 candidate-requires c κs = search rules
@@ -27,7 +27,7 @@ returns-2 : tie.Need-returns-2 invariant-loop decreases-loop
 returns-2 c =
     let k = c.before.before.before in
     let h = k.before.before.before in
-    sym (walked-failed h.before.args.b.now h.loop.left h.loop.h h.loop.low h.loop.high (rw (← k.candidate.ensures) (not-true _ c.if2.true))) ∙ h.loop.invariant.1
+    sym (walked_failed h.before.args.b.now h.loop.left h.loop.h h.loop.low h.loop.high (rw (← k.candidate.ensures) (not-true _ c.if2.true))) ∙ h.loop.invariant.1
 
 upward-requires : tie.Need-upward-requires invariant-loop decreases-loop
 upward-requires c κs = search rules

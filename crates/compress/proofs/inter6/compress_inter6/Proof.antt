@@ -1,4 +1,4 @@
-use Rattle.compress.specs.Inter6.{compressInter6}
+use Rattle.compress.specs.Inter6.{compress_inter6}
 use borrow.Author.Rules.{rules}
 use Rattle.compress.proofs.inter6.compress_inter6.Statement.{statement}
 use Rattle.compress.proofs.inter6.compress_inter6.Tie as tie
@@ -19,13 +19,13 @@ smaller-requires : tie.Need-smaller-requires
 smaller-requires c κs = search rules
 
 returns : tie.Need-returns
-unfolding compressInter6
+unfolding compress_inter6
 returns c =
     let k = c.before.before.before.before in
     rw (c.smaller.ensures, c.before.compressed-from2.ensures, c.before.before.five.ensures, k.compressed-from.ensures, k.before.nudged-pair.ensures, c.before.before.before.if1.true)
 
 returns-2 : tie.Need-returns-2
-unfolding compressInter6
+unfolding compress_inter6
 returns-2 c = rw (c.before.compressed-from.ensures, c.before.before.nudged-pair.ensures, c.if1.false)
 
 pub compress-inter6-spec : {M : Type 1} → statement M

@@ -1,4 +1,4 @@
-use Rattle.compress.specs.Inter6.{compressedFrom}
+use Rattle.compress.specs.Inter6.{compressed_from}
 use borrow.Author.Rules.{rules}
 use Rattle.compress.proofs.inter6.compressed_from.Statement.{statement}
 use Rattle.compress.proofs.inter6.compressed_from.Tie as tie
@@ -16,7 +16,7 @@ ended-requires : tie.Need-ended-requires
 ended-requires c κs = search rules
 
 returns : tie.Need-returns
-unfolding compressedFrom
+unfolding compressed_from
 returns c = rw (c.ended.ensures, c.before.new-inter6.ensures, c.before.before.refine-endpoints.ensures, c.before.before.before.fitted-twice.ensures)
 
 pub compressed-from-spec : {M : Type 1} → statement M

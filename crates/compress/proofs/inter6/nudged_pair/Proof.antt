@@ -1,4 +1,4 @@
-use Rattle.compress.specs.Inter6.{nudgedPair}
+use Rattle.compress.specs.Inter6.{nudged_pair}
 use borrow.Author.Rules.{rules}
 use Rattle.compress.proofs.inter6.nudged_pair.Statement.{statement}
 use Rattle.compress.proofs.inter6.nudged_pair.Tie as tie
@@ -13,7 +13,7 @@ nudged-requires-2 : tie.Need-nudged-requires-2
 nudged-requires-2 c κs = search rules
 
 returns : tie.Need-returns
-unfolding nudgedPair
+unfolding nudged_pair
 returns c = rw (c.nudged2.ensures, c.before.nudged.ensures, c.before.before.mean.ensures)
 
 pub nudged-pair-spec : {M : Type 1} → statement M

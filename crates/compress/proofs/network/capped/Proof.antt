@@ -7,15 +7,15 @@ use borrow.Author.Rules.{rules}
 use borrow.Author.Count.{below_more}
 use Rattle.floats.proofs.Tests.{so}
 use Rattle.floats.specs.Arithmetic.{f2}
-use Rattle.floats.specs.Helpers.{laneMin}
-use Rattle.block.specs.Samples.{pixelAt}
+use Rattle.floats.specs.Helpers.{lane_min}
+use Rattle.block.specs.Samples.{pixel_at}
 use Rattle.block.proofs.Fill.{Filled, fill_start, fill_step, fill_end, get_d_tabulate}
 use Rattle.compress.specs.Network.{capped}
 use Rattle.compress.proofs.network.capped.Statement.{statement}
 use Rattle.compress.proofs.network.capped.Tie as tie
 
 abbrev invariant-loop : tie.invariant-loop
-invariant-loop b s₀ i₀ s i = Filled nan (λ (k : ℕ). laneMin (pixelAt b k) f2) 16 s i × ((k : ℕ) → k < i → T (fits binary32 (laneMin (pixelAt b k) f2)))
+invariant-loop b s₀ i₀ s i = Filled nan (λ (k : ℕ). lane_min (pixel_at b k) f2) 16 s i × ((k : ℕ) → k < i → T (fits binary32 (lane_min (pixel_at b k) f2)))
 
 abbrev decreases-loop : tie.decreases-loop
 decreases-loop b s₀ i₀ s i = 16 - i
@@ -48,7 +48,7 @@ loop-again : tie.Need-loop-preserved invariant-loop decreases-loop
 loop-again c =
     let h = c.before.before.before.loop in (
       fill_step h.invariant.0 (search rules) c.lane-min.ensures,
-      below_more (λ (k : ℕ). T (fits binary32 (laneMin (pixelAt c.before.before.before.before.args.b.now k) f2))) h.i h.invariant.1 (rw (← c.lane-min.ensures) (so c.lane-min.type-inv)),
+      below_more (λ (k : ℕ). T (fits binary32 (lane_min (pixel_at c.before.before.before.before.args.b.now k) f2))) h.i h.invariant.1 (rw (← c.lane-min.ensures) (so c.lane-min.type-inv)),
     )
 
 returns : tie.Need-returns invariant-loop decreases-loop

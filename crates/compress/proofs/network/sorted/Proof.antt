@@ -1,6 +1,6 @@
 use borrow.Author.Rules.{rules}
 use Rattle.compress.specs.Network.{sorted}
-use Rattle.compress.proofs.Steps.{run-append}
+use Rattle.compress.proofs.Steps.{run_append}
 use Rattle.compress.proofs.network.sorted.Statement.{statement}
 use Rattle.compress.proofs.network.sorted.Tie as tie
 
@@ -50,7 +50,7 @@ returns c =
     let p2 = p3.before.before in
     let p1 = p2.before.before in
     let entry = p1.before.before.capped.ensures in record {
-      is_sorted = simp (c.pass10.ensures, p9.pass9.ensures, p8.pass8.ensures, p7.pass7.ensures, p6.pass6.ensures, p5.pass5.ensures, p4.pass4.ensures, p3.pass3.ensures, p2.pass2.ensures, p1.pass.ensures, entry.0, run-append);
+      is_sorted = simp (c.pass10.ensures, p9.pass9.ensures, p8.pass8.ensures, p7.pass7.ensures, p6.pass6.ensures, p5.pass5.ensures, p4.pass4.ensures, p3.pass3.ensures, p2.pass2.ensures, p1.pass.ensures, entry.0, run_append);
       fit = rw entry.0 at entry.1;
     }
 

@@ -2,19 +2,19 @@ use mathlib.Core.Path.{◌≡◌, refl, sym}
 use Prim.Native.Nat.{◌≤◌, ◌-◌}
 use native.Mathlib.Omega.{arith}
 use borrow.Author.Rules.{rules}
-use Rattle.compress.specs.Network.{firstZeroTo}
-use Rattle.compress.proofs.Places.{first-zero-more}
+use Rattle.compress.specs.Network.{first_zero_to}
+use Rattle.compress.proofs.Places.{first_zero_more}
 use Rattle.compress.proofs.sorted.first_zero.Statement.{statement}
 use Rattle.compress.proofs.sorted.first_zero.Tie as tie
 
 abbrev invariant-loop : tie.invariant-loop
-invariant-loop b z₀ i₀ z i = (i ≤ 16) × (z ≡ firstZeroTo b i)
+invariant-loop b z₀ i₀ z i = (i ≤ 16) × (z ≡ first_zero_to b i)
 
 abbrev decreases-loop : tie.decreases-loop
 decreases-loop b z₀ i₀ z i = 16 - i
 
 loop-holds : tie.Need-loop-init invariant-loop decreases-loop
-unfolding firstZeroTo
+unfolding first_zero_to
 loop-holds c = (search rules, refl)
 
 mul-pick : tie.Need-overflow-mul-pick invariant-loop decreases-loop
@@ -35,7 +35,7 @@ loop-less c = search rules
 loop-again : tie.Need-loop-preserved invariant-loop decreases-loop
 loop-again c =
     let h = c.before.before.before in
-    (search rules, rw (c.pick.ensures, h.loop.invariant.1) (sym (first-zero-more h.before.args.b.now h.loop.i)))
+    (search rules, rw (c.pick.ensures, h.loop.invariant.1) (sym (first_zero_more h.before.args.b.now h.loop.i)))
 
 returns : tie.Need-returns invariant-loop decreases-loop
 returns c =

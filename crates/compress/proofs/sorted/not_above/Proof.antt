@@ -3,7 +3,7 @@ use Prim.Native.Nat.{◌≤◌, ◌-◌}
 use native.Mathlib.Omega.{arith}
 use borrow.Author.Rules.{rules}
 use Rattle.compress.specs.Sorted.{count_to}
-use Rattle.compress.proofs.Places.{count-more}
+use Rattle.compress.proofs.Places.{count_more}
 use Rattle.compress.proofs.sorted.not_above.Statement.{statement}
 use Rattle.compress.proofs.sorted.not_above.Tie as tie
 
@@ -40,7 +40,7 @@ loop-again c =
     let k = c.one-if.ensures in
     let h = c.before.before.before in
     let a = h.before.args in
-    (search rules, omega arith, rw (k.0, h.loop.invariant.2) (sym (count-more a.b.now a.x h.loop.i)))
+    (search rules, omega arith, rw (k.0, h.loop.invariant.2) (sym (count_more a.b.now a.x h.loop.i)))
 
 returns : tie.Need-returns invariant-loop decreases-loop
 returns c =

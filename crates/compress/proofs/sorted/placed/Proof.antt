@@ -1,6 +1,6 @@
 use mathlib.Core.Path.{◌∙◌}
 use borrow.Author.Rules.{rules}
-use Rattle.compress.proofs.SortedPlaces.{sorted-place}
+use Rattle.compress.proofs.SortedPlaces.{sorted_place}
 use Rattle.compress.proofs.sorted.placed.Statement.{statement}
 use Rattle.compress.proofs.sorted.placed.Tie as tie
 
@@ -21,14 +21,14 @@ returns c =
     let x = c.before.before in
     let o = x.before.before in
     let zero = rw x.lane-min.ensures at c.before.if1.true in
-    c.first-zero.ensures ∙ (rw zero at (sorted-place o.args.b.now o.args.k o.requires.1 o.requires.0))
+    c.first_zero_lem.ensures ∙ (rw zero at (sorted_place o.args.b.now o.args.k o.requires.1 o.requires.0))
 
 returns-2 : tie.Need-returns-2
 returns-2 c =
     let x = c.before in
     let o = x.before.before in
     let other = rw x.lane-min.ensures at c.if1.false in
-    x.lane-min.ensures ∙ (rw other at (sorted-place o.args.b.now o.args.k o.requires.1 o.requires.0))
+    x.lane-min.ensures ∙ (rw other at (sorted_place o.args.b.now o.args.k o.requires.1 o.requires.0))
 
 pub placed-spec : {M : Type 1} → statement M
 placed-spec =

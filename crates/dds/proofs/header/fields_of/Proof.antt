@@ -1,6 +1,6 @@
 -- `dds::header::fields_of` meets its contract: the fields that are not set are 0.
 use borrow.Author.Rules.{rules}
-use Rattle.place.proofs.Places.{size-good, size_small}
+use Rattle.place.proofs.Places.{size_good, size_small}
 use Rattle.dds.proofs.header.fields_of.Statement.{statement}
 use Rattle.dds.proofs.header.fields_of.Tie as tie
 
@@ -14,13 +14,13 @@ array-write-all-3 : tie.Need-array-write-all-3
 array-write-all-3 c = search rules
 
 cast-all : tie.Need-overflow-cast-all
-cast-all c = let good = size-good _ _ c.requires in search rules
+cast-all c = let good = size_good _ _ c.requires in search rules
 
 array-write-all-4 : tie.Need-array-write-all-4
 array-write-all-4 c = search rules
 
 cast-all-2 : tie.Need-overflow-cast-all-2
-cast-all-2 c = let good = size-good _ _ c.requires in search rules
+cast-all-2 c = let good = size_good _ _ c.requires in search rules
 
 array-write-all-5 : tie.Need-array-write-all-5
 array-write-all-5 c = search rules
@@ -53,7 +53,7 @@ array-write-all-11 : tie.Need-array-write-all-11
 array-write-all-11 c = search rules
 
 returns : tie.Need-returns
-returns c = rw (c.four-characters.ensures, c.before.encoded-length.ensures)
+returns c = rw (c.four_characters_lem.ensures, c.before.encoded-length.ensures)
 
 pub fields-of-spec : {M : Type 1} → statement M
 fields-of-spec =

@@ -5,13 +5,13 @@ use native.Mathlib.Omega.{arith}
 use lib.ListN.{get_or, length-take, length-drop}
 use borrow.Author.Rules.{rules}
 use Rattle.fields.specs.Fields.{field_of}
-use Rattle.place.proofs.Joined.{all-copied, Grown, grown-start, grown-step}
-use Rattle.dds.specs.Layout.{headerField, headerOf}
+use Rattle.place.proofs.Joined.{all_copied, Grown, grown_start, grown_step}
+use Rattle.dds.specs.Layout.{header_field, header_of}
 use Rattle.dds.proofs.header.put.Statement.{statement}
 use Rattle.dds.proofs.header.put.Tie as tie
 
 abbrev invariant-loop : tie.invariant-loop
-invariant-loop width height snorm out₀ all k₀ out k = (k ≤ 32) × Grown (headerField width height snorm) 4 out₀ out k
+invariant-loop width height snorm out₀ all k₀ out k = (k ≤ 32) × Grown (header_field width height snorm) 4 out₀ out k
 
 abbrev decreases-loop : tie.decreases-loop
 decreases-loop width height snorm out₀ all k₀ out k = 32 - k
@@ -20,7 +20,7 @@ fields-of-requires : tie.Need-fields-of-requires invariant-loop decreases-loop
 fields-of-requires c κs = search rules
 
 loop-holds : tie.Need-loop-init invariant-loop decreases-loop
-loop-holds c = (search rules, grown-start)
+loop-holds c = (search rules, grown_start)
 
 mul-bytes-u32 : tie.Need-overflow-mul-bytes-u32 invariant-loop decreases-loop
 mul-bytes-u32 c = search rules
@@ -66,14 +66,14 @@ loop-again c =
     let field = c.before.before.before.before.before in
     let h = field.before.before in
     let k = h.loop.k in
-    let made = c.before.before.copy.ensures.1 ∙ all-copied _ _ (simp (length-take, length-drop) (omega arith)) ∙ field.bytes-u32.ensures ∙ ap (λ all. field_of 4 (get_or all k 0)) h.before.fields-of.ensures in
-    (search rules, grown-step (λ k. refl) h.loop.invariant.1 (4 * k) (4 * k + 4 - 4 * k) _ (omega arith) (omega arith) made (omega arith))
+    let made = c.before.before.copy.ensures.1 ∙ all_copied _ _ (simp (length-take, length-drop) (omega arith)) ∙ field.bytes-u32.ensures ∙ ap (λ all. field_of 4 (get_or all k 0)) h.before.fields-of.ensures in
+    (search rules, grown_step (λ k. refl) h.loop.invariant.1 (4 * k) (4 * k + 4 - 4 * k) _ (omega arith) (omega arith) made (omega arith))
 
 same_length : tie.Need-same-length invariant-loop decreases-loop
 same_length c = search rules
 
 returns : tie.Need-returns invariant-loop decreases-loop
-unfolding headerOf
+unfolding header_of
 returns c =
     let h = c.before in
     let e : h.loop.k ≡ 32 = omega arith in

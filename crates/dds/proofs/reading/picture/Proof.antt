@@ -1,5 +1,5 @@
 use borrow.Author.Rules.{rules}
-use Rattle.dds.specs.Calls.{pictureIn}
+use Rattle.dds.specs.Calls.{picture_in}
 use Rattle.dds.proofs.reading.picture.Statement.{statement}
 use Rattle.dds.proofs.reading.picture.Tie as tie
 
@@ -22,7 +22,7 @@ body-at-requires : tie.Need-body-at-requires
 body-at-requires c κs = search rules
 
 returns : tie.Need-returns
-unfolding pictureIn
+unfolding picture_in
 returns c = rw (c.body_at.ensures, c.before.format-in.ensures, c.before.before.read-u322.ensures, c.before.before.before.read_u32.ensures)
 
 pub picture-spec : {M : Type 1} → statement M

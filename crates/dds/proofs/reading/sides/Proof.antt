@@ -3,13 +3,13 @@ use mathlib.Core.Path.{◌≡◌, sym, ◌∙◌}
 use Prim.Native.Nat.{◌*◌, ◌≤◌}
 use borrow.Author.Tests.{eq-eqb, ne_eqb}
 use borrow.Author.Rules.{rules}
-use Rattle.place.specs.Place.{longestSide}
+use Rattle.place.specs.Place.{longest_side}
 use Rattle.place.proofs.Places.{size_small}
 use Rattle.refusal.specs.declared.Checked.TheVariants.{Passed}
-use Rattle.refusal.specs.Refusals.{first_of, sizeChecks}
-use Rattle.refusal.proofs.Firsts.{refused-before, passed-before}
-use Rattle.refusal.proofs.Sizes.{size-passed}
-use Rattle.dds.specs.Checks.{sideChecks, bodyChecks}
+use Rattle.refusal.specs.Refusals.{first_of, size_checks}
+use Rattle.refusal.proofs.Firsts.{refused_before, passed_before}
+use Rattle.refusal.proofs.Sizes.{size_passed}
+use Rattle.dds.specs.Checks.{side_checks, body_checks}
 use Rattle.dds.proofs.Headers.{body_near}
 use Rattle.dds.proofs.reading.sides.Statement.{statement}
 use Rattle.dds.proofs.reading.sides.Tie as tie
@@ -36,14 +36,14 @@ enum_told : tie.Need-enum-told
 enum_told c = search rules
 
 -- the size that was looked at is the file's
-sizes : (s : tie.After-size) → first_of (sideChecks s.before.before.before.before.args.file.now) ≡ first_of (sizeChecks s.before.before.read_u32.result s.before.read-u322.result)
+sizes : (s : tie.After-size) → first_of (side_checks s.before.before.before.before.args.file.now) ≡ first_of (size_checks s.before.before.read_u32.result s.before.read-u322.result)
 sizes s = rw (s.before.before.read_u32.ensures, s.before.read-u322.ensures)
 
-told : (t : tie.After-enum-told) → first_of (sideChecks t.before.before.before.before.before.before.args.file.now) ≡ Passed
+told : (t : tie.After-enum-told) → first_of (side_checks t.before.before.before.before.before.before.args.file.now) ≡ Passed
 told t = sizes t.before.before ∙ sym t.before.before.size.ensures ∙ t.enum_told.given.1
 
-area : (t : tie.After-enum-told) → t.before.before.before.before.read_u32.result * t.before.before.before.read-u322.result ≤ longestSide * longestSide
-area t = size_small _ _ (size-passed _ _ (sym t.before.before.size.ensures ∙ t.enum_told.given.1))
+area : (t : tie.After-enum-told) → t.before.before.before.before.read_u32.result * t.before.before.before.read-u322.result ≤ longest_side * longest_side
+area t = size_small _ _ (size_passed _ _ (sym t.before.before.size.ensures ∙ t.enum_told.given.1))
 
 body-at-requires : tie.Need-body-at-requires
 body-at-requires c κs = search rules
@@ -59,17 +59,17 @@ add-if1 c =
 
 returns : tie.Need-returns
 unfolding first_of
-returns c = rw (passed-before (sideChecks _) _ (told c.before.before.before), ← c.before.before.before.before.before.before.before.read_u32.ensures, ← c.before.before.before.before.before.before.read-u322.ensures, ← c.before.before.body_at.ensures, ← c.before.encoded-length.ensures, ne_eqb _ _ c.if1.true)
+returns c = rw (passed_before (side_checks _) _ (told c.before.before.before), ← c.before.before.before.before.before.before.before.read_u32.ensures, ← c.before.before.before.before.before.before.read-u322.ensures, ← c.before.before.body_at.ensures, ← c.before.encoded-length.ensures, ne_eqb _ _ c.if1.true)
 
 returns-2 : tie.Need-returns-2
 returns-2 c =
     let s = c.before.before.before in
     let file = s.before.before.before.before.args.file.now in
-    sym (refused-before (sideChecks file) (bodyChecks file) (sizes s ∙ sym s.size.ensures ∙ c.before.checked.given.1))
+    sym (refused_before (side_checks file) (body_checks file) (sizes s ∙ sym s.size.ensures ∙ c.before.checked.given.1))
 
 returns-3 : tie.Need-returns-3
 unfolding first_of
-returns-3 c = rw (passed-before (sideChecks _) _ (told c.before.before.before), ← c.before.before.before.before.before.before.before.read_u32.ensures, ← c.before.before.before.before.before.before.read-u322.ensures, ← c.before.before.body_at.ensures, ← c.before.encoded-length.ensures, eq-eqb _ _ c.if1.false)
+returns-3 c = rw (passed_before (side_checks _) _ (told c.before.before.before), ← c.before.before.before.before.before.before.before.read_u32.ensures, ← c.before.before.before.before.before.before.read-u322.ensures, ← c.before.before.body_at.ensures, ← c.before.encoded-length.ensures, eq-eqb _ _ c.if1.false)
 
 pub sides-spec : {M : Type 1} → statement M
 sides-spec =

@@ -1,5 +1,5 @@
 use mathlib.Core.Path.{sym}
-use Rattle.end_points.proofs.Ordered.{between-same, between-other}
+use Rattle.end_points.proofs.Ordered.{between_same, between_other}
 use borrow.Author.Rules.{rules}
 use Rattle.end_points.proofs.levels.between.Statement.{statement}
 use Rattle.end_points.proofs.levels.between.Tie as tie
@@ -22,10 +22,10 @@ apart-requires c κs = search rules
 returns : tie.Need-returns
 returns c =
     let b = c.before.before.before in
-    cc (between-same _ _ _ _ _ b.before.before.nearest-level.ensures b.before.nearest-level2.ensures b.if1.true)
+    cc (between_same _ _ _ _ _ b.before.before.nearest-level.ensures b.before.nearest-level2.ensures b.if1.true)
 
 returns-2 : tie.Need-returns-2
-returns-2 c = sym (between-other _ _ _ _ _ c.before.before.nearest-level.ensures c.before.nearest-level2.ensures c.if1.false)
+returns-2 c = sym (between_other _ _ _ _ _ c.before.before.nearest-level.ensures c.before.nearest-level2.ensures c.if1.false)
 
 pub between-spec : {M : Type 1} → statement M
 between-spec =

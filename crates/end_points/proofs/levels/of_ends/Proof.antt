@@ -1,5 +1,5 @@
 use Rattle.floats.specs.Helpers.{max_of}
-use Rattle.end_points.specs.Levels.{levelsOf}
+use Rattle.end_points.specs.Levels.{levels_of}
 use Rattle.end_points.proofs.Rounded.{fitting}
 use borrow.Author.Rules.{rules}
 use Rattle.end_points.proofs.levels.of_ends.Statement.{statement}
@@ -23,7 +23,7 @@ between-requires c κs =
     rw (c.in-format2.ensures, c.before.max.ensures) (fitting a.snorm (max_of a.e0 a.e1)).top
 
 returns : tie.Need-returns
-unfolding levelsOf
+unfolding levels_of
 returns c = rw (c.between.ensures, c.before.in-format2.ensures, c.before.before.max.ensures, c.before.before.before.in-format.ensures, c.before.before.before.before.min.ensures)
 
 pub of-ends-spec : {M : Type 1} → statement M

@@ -1,6 +1,6 @@
 use mathlib.Core.Path.{refl, sym, ◌∙◌}
 use native.Mathlib.Omega.{arith}
-use Rattle.refusal.proofs.Views.{view-room}
+use Rattle.refusal.proofs.Views.{view_room}
 use borrow.Author.Rules.{rules}
 use Rattle.exports.proofs.channels.bc5_block_view.Statement.{statement}
 use Rattle.exports.proofs.channels.bc5_block_view.Tie as tie
@@ -20,7 +20,7 @@ enum_told c = search rules
 block-at-requires : tie.Need-block-at-requires
 block-at-requires c κs =
     let a = c.before.before.before.before.args in
-    let room = view-room (omega arith) a.tile.now a.width a.height a.column a.row (sym c.before.before.view-refusal.ensures ∙ c.enum_told.given.1) in
+    let room = view_room (omega arith) a.tile.now a.width a.height a.column a.row (sym c.before.before.view-refusal.ensures ∙ c.enum_told.given.1) in
     search rules
 
 returns : tie.Need-returns

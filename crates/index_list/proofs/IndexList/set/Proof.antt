@@ -3,7 +3,7 @@ use Prim.Native.Nat.{◌*◌}
 use native.Mathlib.Omega.{arith}
 use lib.Pow.{shl_exact}
 use borrow.Author.Rules.{rules}
-use Rattle.index_list.proofs.Laws.{set-lt}
+use Rattle.index_list.proofs.Laws.{set_lt}
 use Rattle.index_list.proofs.IndexList.set.Statement.{statement}
 use Rattle.index_list.proofs.IndexList.set.Tie as tie
 
@@ -17,7 +17,7 @@ add-t8 : tie.Need-overflow-add-t8
 add-t8 c =
     let a = c.before.args in
     let p = c.before.requires in
-    let fits = set-lt a.self.data a.index a.value 64 p.1 p.2 (omega arith) (omega arith) in
+    let fits = set_lt a.self.data a.index a.value 64 p.1 p.2 (omega arith) (omega arith) in
     omega (arith, fits, shl_exact 3 (3 * a.index) 64 p.1 (omega arith))
 
 returns : tie.Need-returns

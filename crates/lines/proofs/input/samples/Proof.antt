@@ -4,13 +4,13 @@ use Prim.Native.Nat.{ℕ, ◌-◌}
 use native.Mathlib.Omega.{arith}
 use lib.Ieee.{binary32, nan, of_bits}
 use Rattle.block.proofs.Fill.{Filled, fill_start, fill_step, fill_end}
-use Rattle.lines.specs.Input.{patternAt, samplesOf}
+use Rattle.lines.specs.Input.{pattern_at, samples_of}
 use borrow.Author.Rules.{rules}
 use Rattle.lines.proofs.input.samples.Statement.{statement}
 use Rattle.lines.proofs.input.samples.Tie as tie
 
 abbrev invariant-loop : tie.invariant-loop
-invariant-loop bytes b₀ i₀ b i = Filled nan (λ (k : ℕ). of_bits binary32 (patternAt bytes k)) 16 b i
+invariant-loop bytes b₀ i₀ b i = Filled nan (λ (k : ℕ). of_bits binary32 (pattern_at bytes k)) 16 b i
 
 abbrev decreases-loop : tie.decreases-loop
 decreases-loop bytes b₀ i₀ b i = 16 - i
@@ -40,7 +40,7 @@ loop-again : tie.Need-loop-preserved invariant-loop decreases-loop
 loop-again c = fill_step c.before.before.before.loop.invariant (search rules) (c.float_of.ensures ∙ ap (of_bits binary32) c.before.pattern.ensures)
 
 returns : tie.Need-returns invariant-loop decreases-loop
-unfolding samplesOf
+unfolding samples_of
 returns c = fill_end c.before.loop.invariant (omega arith)
 
 pub samples-spec : {M : Type 1} → statement M

@@ -1,5 +1,5 @@
 use mathlib.Core.Path.{refl}
-use Rattle.lines.specs.Output.{hexLine}
+use Rattle.lines.specs.Output.{hex_line}
 use borrow.Author.Rules.{rules}
 use Rattle.lines.proofs.output.hex.Statement.{statement}
 use Rattle.lines.proofs.output.hex.Tie as tie
@@ -56,7 +56,7 @@ digits-requires-8 : tie.Need-digits-requires-8
 digits-requires-8 c κs = search rules
 
 returns : tie.Need-returns
-unfolding hexLine
+unfolding hex_line
 returns c =
     record { size = refl; within = search rules; same = simp (c.digits8.ensures.0, c.digits8.ensures.1, c.before.digits7.ensures.0, c.before.digits7.ensures.1, c.before.before.digits6.ensures.0, c.before.before.digits6.ensures.1, c.before.before.before.digits5.ensures.0, c.before.before.before.digits5.ensures.1, c.before.before.before.before.digits4.ensures.0, c.before.before.before.before.digits4.ensures.1, c.before.before.before.before.before.digits3.ensures.0, c.before.before.before.before.before.digits3.ensures.1, c.before.before.before.before.before.before.digits2.ensures.0, c.before.before.before.before.before.before.digits2.ensures.1, c.before.before.before.before.before.before.before.digits.ensures.0, c.before.before.before.before.before.before.before.digits.ensures.1, c.before.before.before.before.before.before.before.before.bytes.ensures) }
 

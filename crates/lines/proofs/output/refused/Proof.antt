@@ -1,5 +1,5 @@
 use mathlib.Core.Path.{refl}
-use Rattle.lines.specs.Output.{refusedLine}
+use Rattle.lines.specs.Output.{refused_line}
 use borrow.Author.Rules.{rules}
 use Rattle.lines.proofs.output.refused.Statement.{statement}
 use Rattle.lines.proofs.output.refused.Tie as tie
@@ -8,7 +8,7 @@ add-t2 : tie.Need-overflow-add-t2
 add-t2 c = search rules
 
 returns : tie.Need-returns
-unfolding refusedLine
+unfolding refused_line
 returns c = record { size = refl; within = search rules; same = refl }
 
 pub refused-spec : {M : Type 1} → statement M

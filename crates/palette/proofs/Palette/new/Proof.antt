@@ -1,4 +1,4 @@
-use Rattle.palette.specs.ByKind.{paletteOf}
+use Rattle.palette.specs.ByKind.{palette_of}
 use borrow.Author.Rules.{rules}
 use Rattle.palette.proofs.Palette.new.Statement.{statement}
 use Rattle.palette.proofs.Palette.new.Tie as tie
@@ -13,11 +13,11 @@ enum-told-2 : tie.Need-enum-told-2
 enum-told-2 c = search rules
 
 returns : tie.Need-returns
-unfolding paletteOf
+unfolding palette_of
 returns c = rw (c.before.enum_told.given.1, c.new.ensures)
 
 returns-2 : tie.Need-returns-2
-unfolding paletteOf
+unfolding palette_of
 returns-2 c = rw c.enum-told2.given.1
 
 pub new_spec : {M : Type 1} → statement M

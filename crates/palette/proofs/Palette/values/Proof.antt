@@ -1,4 +1,4 @@
-use Rattle.palette.specs.ByKind.{valuesIn}
+use Rattle.palette.specs.ByKind.{values_in}
 use borrow.Author.Rules.{rules}
 use Rattle.palette.proofs.Palette.values.Statement.{statement}
 use Rattle.palette.proofs.Palette.values.Tie as tie
@@ -16,11 +16,11 @@ values-requires : tie.Need-values-requires
 values-requires c κs = search rules
 
 returns : tie.Need-returns
-unfolding valuesIn
+unfolding values_in
 returns c = rw c.before.before.self.given.1 c.error-values.ensures
 
 returns-2 : tie.Need-returns-2
-unfolding valuesIn
+unfolding values_in
 returns-2 c = rw c.before.before.self2.given.1 c.values.ensures
 
 pub values-spec : {M : Type 1} → statement M

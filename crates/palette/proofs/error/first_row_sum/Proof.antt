@@ -1,4 +1,4 @@
-use Rattle.palette.specs.Rows.{firstRowSum}
+use Rattle.palette.specs.Rows.{first_row_sum}
 use borrow.Author.Rules.{rules}
 use Rattle.palette.proofs.error.first_row_sum.Statement.{statement}
 use Rattle.palette.proofs.error.first_row_sum.Tie as tie
@@ -28,7 +28,7 @@ miss-requires-4 : tie.Need-miss-requires-4
 miss-requires-4 c κs = search rules
 
 returns : tie.Need-returns
-unfolding firstRowSum
+unfolding first_row_sum
 returns c = cc
 
 pub first-row-sum-spec : {M : Type 1} → statement M

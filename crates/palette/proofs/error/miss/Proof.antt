@@ -1,5 +1,5 @@
-use Rattle.palette.specs.PaletteError.{leastSquareTo}
-use Rattle.palette.proofs.LeastSquare.{miss-is}
+use Rattle.palette.specs.PaletteError.{least_square_to}
+use Rattle.palette.proofs.LeastSquare.{miss_is}
 use borrow.Author.Rules.{rules}
 use Rattle.palette.proofs.error.miss.Statement.{statement}
 use Rattle.palette.proofs.error.miss.Tie as tie
@@ -53,8 +53,8 @@ nearer-requires-7 : tie.Need-nearer-requires-7
 nearer-requires-7 c κs = search rules
 
 returns : tie.Need-returns
-unfolding leastSquareTo
-returns c = cc (miss-is c.before.before.before.before.before.before.before.before.args.t1 c.before.before.before.before.before.before.before.before.args.pixel)
+unfolding least_square_to
+returns c = cc (miss_is c.before.before.before.before.before.before.before.before.args.t1 c.before.before.before.before.before.before.before.before.args.pixel)
 
 pub miss-spec : {M : Type 1} → statement M
 miss-spec =

@@ -1,4 +1,4 @@
-use Rattle.palette.specs.PaletteError.{nearerSquare}
+use Rattle.palette.specs.PaletteError.{nearer_square}
 use borrow.Author.Rules.{rules}
 use Rattle.palette.proofs.error.nearer.Statement.{statement}
 use Rattle.palette.proofs.error.nearer.Tie as tie
@@ -10,7 +10,7 @@ lane-min-requires : tie.Need-lane-min-requires
 lane-min-requires c κs = search rules
 
 returns : tie.Need-returns
-unfolding nearerSquare
+unfolding nearer_square
 returns c = rw (c.lane-min.ensures, c.before.squared-distance.ensures)
 
 pub nearer-spec : {M : Type 1} → statement M

@@ -3,14 +3,14 @@ use Prim.Native.Nat.{ℕ, ◌-◌}
 use native.Mathlib.Omega.{arith}
 use lib.Ieee.{nan}
 use borrow.Author.Rules.{rules}
-use Rattle.block.specs.Samples.{pixelAt}
+use Rattle.block.specs.Samples.{pixel_at}
 use Rattle.block.proofs.Fill.{Filled, fill_start, fill_step, fill_end}
 use Rattle.palette.specs.PaletteError.{miss}
 use Rattle.palette.proofs.error.sum.Statement.{statement}
 use Rattle.palette.proofs.error.sum.Tie as tie
 
 abbrev invariant-loop : tie.invariant-loop
-invariant-loop eight b misses₀ i₀ misses i = Filled nan (λ (k : ℕ). miss eight (pixelAt b k)) 16 misses i
+invariant-loop eight b misses₀ i₀ misses i = Filled nan (λ (k : ℕ). miss eight (pixel_at b k)) 16 misses i
 
 abbrev decreases-loop : tie.decreases-loop
 decreases-loop eight b misses₀ i₀ misses i = 16 - i

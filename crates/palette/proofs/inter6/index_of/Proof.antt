@@ -4,7 +4,7 @@ use Prim.Native.Nat.{ℕ, zero, suc, ◌+◌, ◌-◌, ◌%◌, ◌≤◌}
 use native.Mathlib.Omega.{arith}
 use lib.ListN.{get_or}
 use lib.Dec.{eqb}
-use Rattle.palette.specs.Palettes.{indexMap}
+use Rattle.palette.specs.Palettes.{index_map}
 use borrow.Author.Rules.{rules}
 use Rattle.palette.proofs.inter6.index_of.Statement.{statement}
 use Rattle.palette.proofs.inter6.index_of.Tie as tie
@@ -22,7 +22,7 @@ one-if-requires-2 : tie.Need-one-if-requires-2
 one-if-requires-2 c κs = search rules
 
 -- by the eight numbers
-mapped : (k r s : ℕ) → k ≤ 7 → r ≡ cond (eqb ((8 - k) % 8) 0) 1 0 → s ≡ cond (eqb ((8 - k) % 8) 1) 1 0 → (s ≤ (8 - k) % 8 + r) × ((8 - k) % 8 + r - s ≡ get_or indexMap k 0)
+mapped : (k r s : ℕ) → k ≤ 7 → r ≡ cond (eqb ((8 - k) % 8) 0) 1 0 → s ≡ cond (eqb ((8 - k) % 8) 1) 1 0 → (s ≤ (8 - k) % 8 + r) × ((8 - k) % 8 + r - s ≡ get_or index_map k 0)
 mapped zero r s h e f = (omega arith, omega arith)
 mapped (suc zero) r s h e f = (omega arith, omega arith)
 mapped (suc (suc zero)) r s h e f = (omega arith, omega arith)

@@ -1,18 +1,18 @@
 use native.Mathlib.Omega.{arith}
 use borrow.Author.Tests.{not-true}
 use Rattle.refine.specs.Rounds.{held, refined}
-use Rattle.refine.proofs.RoundLaws.{rounds-none, rounds-end}
+use Rattle.refine.proofs.RoundLaws.{rounds_none, rounds_end}
 use borrow.Author.Rules.{rules}
 use Rattle.refine.proofs.rounds.refine_endpoints.Statement.{statement}
 use Rattle.refine.proofs.rounds.refine_endpoints.Tie as tie
 
 returns : tie.Need-returns
 unfolding refined held
-returns c = rw (rounds-none c.before.args.kind c.before.args.b.now c.before.args.least c.before.args.limit c.before.args.step _ (omega arith))
+returns c = rw (rounds_none c.before.args.kind c.before.args.b.now c.before.args.least c.before.args.limit c.before.args.step _ (omega arith))
 
 returns-2 : tie.Need-returns-2
 unfolding refined held
-returns-2 c = rw (rounds-end c.before.before.args.kind c.before.before.args.b.now c.before.before.args.least c.before.before.args.limit c.before.before.args.step _ (not-true _ c.if2.true))
+returns-2 c = rw (rounds_end c.before.before.args.kind c.before.before.args.b.now c.before.before.args.least c.before.before.args.limit c.before.before.args.step _ (not-true _ c.if2.true))
 
 hold-requires : tie.Need-hold-requires
 hold-requires c κs = search rules

@@ -2,19 +2,19 @@ use mathlib.Core.Path.{◌≡◌, refl, sym}
 use Prim.Native.Nat.{◌≤◌, ◌-◌}
 use native.Mathlib.Omega.{arith}
 use borrow.Author.Rules.{rules}
-use Rattle.refine.specs.Rounds.{triedTo}
-use Rattle.refine.proofs.RoundLaws.{tried-more}
+use Rattle.refine.specs.Rounds.{tried_to}
+use Rattle.refine.proofs.RoundLaws.{tried_more}
 use Rattle.refine.proofs.rounds.round.Statement.{statement}
 use Rattle.refine.proofs.rounds.round.Tie as tie
 
 abbrev invariant-loop : tie.invariant-loop
-invariant-loop kind b start step h₀ i₀ h i = (i ≤ 4) × (h ≡ triedTo kind b start step i)
+invariant-loop kind b start step h₀ i₀ h i = (i ≤ 4) × (h ≡ tried_to kind b start step i)
 
 abbrev decreases-loop : tie.decreases-loop
 decreases-loop kind b start step h₀ i₀ h i = 4 - i
 
 loop-holds : tie.Need-loop-init invariant-loop decreases-loop
-unfolding triedTo
+unfolding tried_to
 loop-holds c = (search rules, refl)
 
 delta-min-requires : tie.Need-delta-min-requires invariant-loop decreases-loop
@@ -48,7 +48,7 @@ loop-again c =
     let a = h.before.args in (
       search rules,
       rw (c.tried.ensures, hi.clamp2.ensures, d.delta-max.ensures, lo.clamp.ensures, e.delta-min.ensures, h.loop.invariant.1)
-          (sym (tried-more a.kind a.b.now a.start a.step h.loop.i)),
+          (sym (tried_more a.kind a.b.now a.start a.step h.loop.i)),
     )
 
 returns : tie.Need-returns invariant-loop decreases-loop

@@ -2,7 +2,7 @@
 use Prim.Native.Nat.{◌-◌, ◌≤◌}
 use lib.ListN.{length}
 use borrow.Author.Rules.{rules}
-use Rattle.refusal.proofs.Nans.{Looked, looked-later, looked-all}
+use Rattle.refusal.proofs.Nans.{Looked, looked_later, looked_all}
 use Rattle.refusal.proofs.nan.any_nan.Statement.{statement}
 use Rattle.refusal.proofs.nan.any_nan.Tie as tie
 
@@ -30,12 +30,12 @@ loop-less c = search rules
 loop-again : tie.Need-loop-preserved invariant-loop decreases-loop
 loop-again c =
     let h = c.before.before in
-    (search rules, looked-later h.before.args.samples.now h.loop.found h.loop.i c.before.loop-test.true h.loop.invariant.1)
+    (search rules, looked_later h.before.args.samples.now h.loop.found h.loop.i c.before.loop-test.true h.loop.invariant.1)
 
 returns : tie.Need-returns invariant-loop decreases-loop
 returns c =
     let h = c.before in
-    looked-all h.before.args.samples.now h.loop.found h.loop.i c.loop-test.false h.loop.invariant.0 h.loop.invariant.1
+    looked_all h.before.args.samples.now h.loop.found h.loop.i c.loop-test.false h.loop.invariant.0 h.loop.invariant.1
 
 pub any-nan-spec : {M : Type 1} → statement M
 any-nan-spec =

@@ -2,7 +2,7 @@
 use Prim.Native.Nat.{◌-◌, ◌≤◌}
 use lib.ListN.{length}
 use borrow.Author.Rules.{rules}
-use Rattle.refusal.proofs.Nans.{Passed-to, nan-here, nan-later, nan-none}
+use Rattle.refusal.proofs.Nans.{Passed-to, nan_here, nan_later, nan_none}
 use Rattle.refusal.proofs.nan.first_nan.Statement.{statement}
 use Rattle.refusal.proofs.nan.first_nan.Tie as tie
 
@@ -22,7 +22,7 @@ shared-slice-read-x : tie.Need-shared-slice-read-x invariant-loop decreases-loop
 shared-slice-read-x c = search rules
 
 returns : tie.Need-returns invariant-loop decreases-loop
-returns c = nan-here _ _ c.before.before.loop-test.true c.before.before.before.loop.invariant.1 c.if1.true
+returns c = nan_here _ _ c.before.before.loop-test.true c.before.before.before.loop.invariant.1 c.if1.true
 
 add-i : tie.Need-overflow-add-i invariant-loop decreases-loop
 add-i c = search rules
@@ -31,10 +31,10 @@ loop-less : tie.Need-loop-smaller invariant-loop decreases-loop
 loop-less c = search rules
 
 loop-again : tie.Need-loop-preserved invariant-loop decreases-loop
-loop-again c = (search rules, nan-later _ _ c.before.before.loop-test.true c.before.before.before.loop.invariant.1 c.if1.false)
+loop-again c = (search rules, nan_later _ _ c.before.before.loop-test.true c.before.before.before.loop.invariant.1 c.if1.false)
 
 returns-2 : tie.Need-returns-2 invariant-loop decreases-loop
-returns-2 c = nan-none _ _ c.loop-test.false c.before.loop.invariant.1
+returns-2 c = nan_none _ _ c.loop-test.false c.before.loop.invariant.1
 
 pub first-nan-spec : {M : Type 1} → statement M
 first-nan-spec =

@@ -8,7 +8,7 @@ use borrow.Author.Rules.{rules}
 use Rattle.refusal.specs.declared.Refusal.{Refusal}
 use Rattle.refusal.specs.declared.Refusal.TheVariants.{SideIsZero, SampleCount, EncodedLength, OutputLength, DitheredResend, NoSuchBlock, SampleIsNan, WordMalformed, SideTooLarge, SideNotMultipleOf4, TileSampleIsNan, DdsHeader, DdsBody, InChannel, EditionReused, EditionOpposite}
 use Rattle.refusal.specs.contracts.Refusal.{the_type}
-use Rattle.refusal.specs.Refusals.{detailOf}
+use Rattle.refusal.specs.Refusals.{detail_of}
 use Rattle.refusal.proofs.told.detail.Statement.{statement}
 use Rattle.refusal.proofs.told.detail.Tie as tie
 
@@ -16,7 +16,7 @@ use Rattle.refusal.proofs.told.detail.Tie as tie
 abbrev silent : List ℕ
 silent = 1 ∷ 2 ∷ 3 ∷ 4 ∷ 5 ∷ 7 ∷ 12 ∷ 14 ∷ 15 ∷ []
 
-others : (q : Refusal) {before : List ℕ} → OneOf silent (tag_of the_type q) → before ≡ detailOf q before
+others : (q : Refusal) {before : List ℕ} → OneOf silent (tag_of the_type q) → before ≡ detail_of q before
 others (SideIsZero side) h = absurd (miss silent 0 tt h)
 others SampleCount h = refl
 others EncodedLength h = refl

@@ -4,12 +4,12 @@ use native.Mathlib.Omega.{arith}
 use lib.Ieee.{nan}
 use borrow.Author.Rules.{rules}
 use Rattle.block.proofs.Fill.{Filled, fill_start, fill_step, fill_end}
-use Rattle.search.specs.Floor.{maxFloor}
+use Rattle.search.specs.Floor.{max_floor}
 use Rattle.search.proofs.floor.max_floors.Statement.{statement}
 use Rattle.search.proofs.floor.max_floors.Tie as tie
 
 abbrev invariant-loop : tie.invariant-loop
-invariant-loop b floors₀ max₀ floors max = Filled nan (maxFloor b) 256 floors max
+invariant-loop b floors₀ max₀ floors max = Filled nan (max_floor b) 256 floors max
 
 abbrev decreases-loop : tie.decreases-loop
 decreases-loop b floors₀ max₀ floors max = 256 - max
@@ -36,7 +36,7 @@ loop-less : tie.Need-loop-smaller invariant-loop decreases-loop
 loop-less c = search rules
 
 loop-again : tie.Need-loop-preserved invariant-loop decreases-loop
-loop-again c = fill_step c.before.before.loop.invariant (search rules) c.max-floor.ensures
+loop-again c = fill_step c.before.before.loop.invariant (search rules) c.max_floor_lem.ensures
 
 returns : tie.Need-returns invariant-loop decreases-loop
 returns c = fill_end c.before.loop.invariant (omega arith)

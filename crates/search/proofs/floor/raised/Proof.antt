@@ -2,7 +2,7 @@ use Prim.Native.Nat.{◌-◌}
 use native.Mathlib.Omega.{arith}
 use borrow.Author.Rules.{rules}
 use Rattle.search.specs.Floor.{Floors}
-use Rattle.search.proofs.FirstRow.{floors-start, floors-raised}
+use Rattle.search.proofs.FirstRow.{floors_start, floors_raised}
 use Rattle.search.proofs.floor.raised.Statement.{statement}
 use Rattle.search.proofs.floor.raised.Tie as tie
 
@@ -21,7 +21,7 @@ first-open-requires c κs = search rules
 loop-holds : tie.Need-loop-init invariant-loop decreases-loop
 loop-holds c =
     let h = c.before.before.before in
-    rw h.requires (floors-start h.args.b.now h.args.min)
+    rw h.requires (floors_start h.args.b.now h.args.min)
 
 cast-f32 : tie.Need-overflow-cast-f32 invariant-loop decreases-loop
 cast-f32 c = search rules
@@ -58,8 +58,8 @@ loop-again c =
     let k = c.before.before in
     let h = k.before.before in
     let a = h.before.before.before.before.args in
-    floors-raised a.b.now a.min h.loop.raised h.loop.max c.lane-max.result h.loop.invariant k.before.loop-test.true
-    (rw (c.lane-max.ensures, c.before.row-floor.ensures, k.f322.ensures, h.before.before.f32.ensures))
+    floors_raised a.b.now a.min h.loop.raised h.loop.max c.lane-max.result h.loop.invariant k.before.loop-test.true
+    (rw (c.lane-max.ensures, c.before.row_floor_lem.ensures, k.f322.ensures, h.before.before.f32.ensures))
 
 returns : tie.Need-returns invariant-loop decreases-loop
 returns c = c.before.loop.invariant

@@ -1,4 +1,4 @@
-use Rattle.search.specs.Floor.{rowFloor}
+use Rattle.search.specs.Floor.{row_floor}
 use borrow.Author.Rules.{rules}
 use Rattle.search.proofs.floor.row_floor.Statement.{statement}
 use Rattle.search.proofs.floor.row_floor.Tie as tie
@@ -13,7 +13,7 @@ pick-requires : tie.Need-pick-requires
 pick-requires c κs = search rules
 
 returns : tie.Need-returns
-unfolding rowFloor
+unfolding row_floor
 returns c = rw (c.pick.ensures, c.before.first-row-error2.ensures, c.before.before.first-row-error.ensures)
 
 pub row-floor-spec : {M : Type 1} → statement M

@@ -4,15 +4,15 @@ use Prim.Native.Nat.{ℕ, ◌-◌}
 use native.Mathlib.Omega.{arith}
 use lib.Ieee.{Float, nan}
 use borrow.Author.Rules.{rules}
-use Rattle.block.specs.Samples.{pixelAt}
-use Rattle.block.specs.Orders.{sumInOrder}
+use Rattle.block.specs.Samples.{pixel_at}
+use Rattle.block.specs.Orders.{sum_in_order}
 use Rattle.block.proofs.Fill.{Filled, fill_start, fill_step, fill_end}
-use Rattle.search.specs.Floor.{beyond, at_least, floorOf}
+use Rattle.search.specs.Floor.{beyond, at_least, floor_of}
 use Rattle.search.proofs.floor.sum.Statement.{statement}
 use Rattle.search.proofs.floor.sum.Tie as tie
 
 abbrev term : List Float → Float → Float → ℕ → Float
-term b low high i = at_least (beyond low high (pixelAt b i)) (pixelAt b i)
+term b low high i = at_least (beyond low high (pixel_at b i)) (pixel_at b i)
 
 abbrev invariant-loop : tie.invariant-loop
 invariant-loop b low high terms₀ i₀ terms i = Filled nan (term b low high) 16 terms i
@@ -62,8 +62,8 @@ sum-in-order-requires : tie.Need-sum-in-order-requires invariant-loop decreases-
 sum-in-order-requires c κs = search rules
 
 returns : tie.Need-returns invariant-loop decreases-loop
-unfolding floorOf
-returns c = c.sum-in-order.ensures ∙ ap sumInOrder (fill_end c.before.before.before.loop.invariant (omega arith))
+unfolding floor_of
+returns c = c.sum-in-order.ensures ∙ ap sum_in_order (fill_end c.before.before.before.loop.invariant (omega arith))
 
 pub sum-spec : {M : Type 1} → statement M
 sum-spec =

@@ -4,16 +4,16 @@ use Prim.Native.Nat.{◌-◌, ◌≤◌}
 use native.Mathlib.Numerals.{add-one}
 use native.Mathlib.Omega.{arith}
 use borrow.Author.Rules.{rules}
-use Rattle.place.specs.Place.{bc4Size}
+use Rattle.place.specs.Place.{bc4_size}
 use Rattle.station.specs.Editions.{alike}
 use Rattle.station.proofs.editions.alike.Statement.{statement}
 use Rattle.station.proofs.editions.alike.Tie as tie
 
 abbrev invariant-loop : tie.invariant-loop
-invariant-loop held block same₀ i₀ same i = (i ≤ bc4Size) × (same ≡ alike held block i)
+invariant-loop held block same₀ i₀ same i = (i ≤ bc4_size) × (same ≡ alike held block i)
 
 abbrev decreases-loop : tie.decreases-loop
-decreases-loop held block same₀ i₀ same i = bc4Size - i
+decreases-loop held block same₀ i₀ same i = bc4_size - i
 
 loop-holds : tie.Need-loop-init invariant-loop decreases-loop
 unfolding alike
@@ -38,7 +38,7 @@ loop-again c = (search rules, rw (add-one _, ← c.before.before.before.loop.inv
 returns : tie.Need-returns invariant-loop decreases-loop
 returns c =
     let h = c.before in
-    let e : h.loop.i ≡ bc4Size = omega arith in
+    let e : h.loop.i ≡ bc4_size = omega arith in
     rw e at h.loop.invariant.1
 
 pub alike_spec : {M : Type 1} → statement M

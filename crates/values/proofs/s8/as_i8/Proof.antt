@@ -1,6 +1,6 @@
 use Rattle.std.proofs.Common.{◌-◌, ℤ, negsuc, sym, ap, ◌∙◌, subst, arith, w8, SFits, to_z, of_z, rules, lt-ltb}
 use mir.ValLaws.{to_z-of_z}
-use Rattle.values.proofs.SignedBytes.{high-steps, signed_high}
+use Rattle.values.proofs.SignedBytes.{high_steps, signed_high}
 use Rattle.values.proofs.s8.as_i8.Statement.{statement}
 use Rattle.values.proofs.s8.as_i8.Tie as tie
 
@@ -17,12 +17,12 @@ cast-result-2 : tie.Need-overflow-cast-result-2
 cast-result-2 c = search rules
 
 sub-result-2 : tie.Need-overflow-sub-result-2
-sub-result-2 c = subst (λ (z : ℤ). SFits w8 z) (sym (high-steps c.before.args.x c.if1.false)) (record { sfits = omega arith })
+sub-result-2 c = subst (λ (z : ℤ). SFits w8 z) (sym (high_steps c.before.args.x c.if1.false)) (record { sfits = omega arith })
 
 returns-2 : tie.Need-returns-2
 returns-2 c =
     let x = c.before.args.x in
-    ap (λ (z : ℤ). to_z w8 (of_z w8 z)) (high-steps x c.if1.false)
+    ap (λ (z : ℤ). to_z w8 (of_z w8 z)) (high_steps x c.if1.false)
     ∙ to_z-of_z w8 (negsuc (255 - x)) (record { sfits = omega arith })
     ∙ sym (signed_high x c.if1.false)
 

@@ -4,21 +4,21 @@ use Prim.Native.Nat.{ℕ, ◌-◌}
 use native.Mathlib.Omega.{arith}
 use lib.Ieee.{Float, nan}
 use borrow.Author.Rules.{rules}
-use Rattle.index_list.proofs.Laws.{filled-same}
-use Rattle.block.specs.Samples.{pixelAt}
-use Rattle.block.specs.Orders.{sumOfSquares}
+use Rattle.index_list.proofs.Laws.{filled_same}
+use Rattle.block.specs.Samples.{pixel_at}
+use Rattle.block.specs.Orders.{sum_of_squares}
 use Rattle.block.proofs.Fill.{Filled, fill_start, fill_step, fill_end}
-use Rattle.palette.specs.Closest.{nearestTo, closest4}
-use Rattle.palette.proofs.ClosestLaws.{nearest6-lt, indexed-is}
+use Rattle.palette.specs.Closest.{nearest_to, closest4}
+use Rattle.palette.proofs.ClosestLaws.{nearest6_lt, indexed_is}
 use Rattle.palette.proofs.inter4.Inter4Palette.block_closest.Statement.{statement}
 use Rattle.palette.proofs.inter4.Inter4Palette.block_closest.Tie as tie
 
 -- the index and the error of pixel i
 abbrev index : List Float → List Float → ℕ → ℕ
-index colors b i = (nearestTo colors (pixelAt b i) 6).index
+index colors b i = (nearest_to colors (pixel_at b i) 6).index
 
 abbrev off : List Float → List Float → ℕ → Float
-off colors b i = (nearestTo colors (pixelAt b i) 6).error
+off colors b i = (nearest_to colors (pixel_at b i) 6).error
 
 abbrev invariant-loop : tie.invariant-loop
 invariant-loop self b chosen₀ errors₀ i₀ chosen errors i = Filled 0 (index self.colors b) 16 chosen i × Filled nan (off self.colors b) 16 errors i
@@ -62,7 +62,7 @@ loop-again c = let v = c.before.before.before.loop.invariant in (fill_step v.0 (
 indexes-requires : tie.Need-indexes-requires invariant-loop decreases-loop
 indexes-requires c κs =
     let h = c.before.before in
-    λ i l. rw (h.loop.invariant.0.done i (omega arith)) (nearest6-lt h.before.args.self.colors (pixelAt h.before.args.b.now i))
+    λ i l. rw (h.loop.invariant.0.done i (omega arith)) (nearest6_lt h.before.args.self.colors (pixel_at h.before.args.b.now i))
 
 sum-of-squares-requires : tie.Need-sum-of-squares-requires invariant-loop decreases-loop
 sum-of-squares-requires c κs = search rules
@@ -72,7 +72,7 @@ unfolding closest4
 returns c =
     let n = c.before.before in
     let v = n.before.before.before.loop.invariant in
-    indexed-is _ _ _ _ (n.indexes.ensures ∙ filled-same _ _ 16 (λ i l. v.0.done i (omega arith))) (c.sum-of-squares.ensures ∙ ap sumOfSquares (fill_end v.1 (omega arith)))
+    indexed_is _ _ _ _ (n.indexes.ensures ∙ filled_same _ _ 16 (λ i l. v.0.done i (omega arith))) (c.sum-of-squares.ensures ∙ ap sum_of_squares (fill_end v.1 (omega arith)))
 
 pub block-closest-spec : {M : Type 1} → statement M
 block-closest-spec =

@@ -1,4 +1,4 @@
-use Rattle.palette.specs.Closest.{nearestTo}
+use Rattle.palette.specs.Closest.{nearest_to}
 use borrow.Author.Rules.{rules}
 use Rattle.palette.proofs.inter4.Inter4Palette.nearest.Statement.{statement}
 use Rattle.palette.proofs.inter4.Inter4Palette.nearest.Tie as tie
@@ -43,7 +43,7 @@ or-requires-6 : tie.Need-or-requires-6
 or-requires-6 c κs = search rules
 
 returns : tie.Need-returns
-unfolding nearestTo
+unfolding nearest_to
 returns c = rw (c.or6.ensures, c.before.or5.ensures, c.before.before.or4.ensures, c.before.before.before.or3.ensures, c.before.before.before.before.or2.ensures, c.before.before.before.before.before.or.ensures, c.before.before.before.before.before.before.default.ensures)
 
 pub nearest-spec : {M : Type 1} → statement M

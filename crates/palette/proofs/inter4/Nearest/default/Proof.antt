@@ -1,4 +1,4 @@
-use Rattle.palette.specs.Closest.{defaultOf}
+use Rattle.palette.specs.Closest.{default_of}
 use borrow.Author.Rules.{rules}
 use Rattle.palette.proofs.inter4.Nearest.default.Statement.{statement}
 use Rattle.palette.proofs.inter4.Nearest.default.Tie as tie
@@ -10,7 +10,7 @@ pick-requires : tie.Need-pick-requires
 pick-requires c κs = search rules
 
 returns : tie.Need-returns
-unfolding defaultOf
+unfolding default_of
 returns c = rw (c.pick.ensures, c.before.pick-index.ensures)
 
 pub default-spec : {M : Type 1} → statement M

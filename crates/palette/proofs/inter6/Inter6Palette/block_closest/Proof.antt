@@ -4,17 +4,17 @@ use native.Mathlib.Omega.{arith}
 use lib.ListN.{get_or}
 use lib.Ieee.{nan}
 use borrow.Author.Rules.{rules}
-use Rattle.index_list.specs.Indexes.{filledTo}
-use Rattle.block.specs.Samples.{pixelAt}
+use Rattle.index_list.specs.Indexes.{filled_to}
+use Rattle.block.specs.Samples.{pixel_at}
 use Rattle.block.proofs.Fill.{Filled, fill_start, fill_step}
 use Rattle.palette.specs.Closest.{closest6}
-use Rattle.palette.specs.Rows.{index6, off6, rowCode, rowSum, ofRow}
-use Rattle.palette.proofs.ClosestLaws.{row_lt, rows_code, rows-sum, sum-abs, indexed-is}
+use Rattle.palette.specs.Rows.{index6, off6, row_code, row_sum, of_row}
+use Rattle.palette.proofs.ClosestLaws.{row_lt, rows_code, rows_sum, sum_abs, indexed_is}
 use Rattle.palette.proofs.inter6.Inter6Palette.block_closest.Statement.{statement}
 use Rattle.palette.proofs.inter6.Inter6Palette.block_closest.Tie as tie
 
 abbrev invariant-loop : tie.invariant-loop
-invariant-loop self b codes₀ sums₀ i₀ codes sums i = Filled 0 (ofRow (rowCode self) b) 4 codes i × Filled nan (ofRow (rowSum self) b) 4 sums i
+invariant-loop self b codes₀ sums₀ i₀ codes sums i = Filled 0 (of_row (row_code self) b) 4 codes i × Filled nan (of_row (row_sum self) b) 4 sums i
 
 abbrev decreases-loop : tie.decreases-loop
 decreases-loop self b codes₀ sums₀ i₀ codes sums i = 4 - i
@@ -86,11 +86,11 @@ returns c =
     let o = h.loop in
     let p = h.before.args.self in
     let b = h.before.args.b.now in
-    let code : (k : ℕ) → k < 4 → get_or o.codes k 0 ≡ ofRow (rowCode p) b k = λ k l. o.invariant.0.done k (omega arith) in
-    let sum : (k : ℕ) → k < 4 → get_or o.sums k nan ≡ ofRow (rowSum p) b k = λ k l. o.invariant.1.done k (omega arith) in
-    let I : c.of-rows.result.«data» ≡ filledTo (λ i. index6 p (pixelAt b i)) 16 = c.of-rows.ensures ∙ rw (code 0 (omega arith), code 1 (omega arith), code 2 (omega arith), code 3 (omega arith)) (rows_code p b) in
-    indexed-is c.of-rows.result _ _ _ I
-    (rw (sum 0 (omega arith), sum 1 (omega arith), sum 2 (omega arith), sum 3 (omega arith)) (rows-sum p b ∙ sum-abs (λ i. off6 p (pixelAt b i))))
+    let code : (k : ℕ) → k < 4 → get_or o.codes k 0 ≡ of_row (row_code p) b k = λ k l. o.invariant.0.done k (omega arith) in
+    let sum : (k : ℕ) → k < 4 → get_or o.sums k nan ≡ of_row (row_sum p) b k = λ k l. o.invariant.1.done k (omega arith) in
+    let I : c.of-rows.result.«data» ≡ filled_to (λ i. index6 p (pixel_at b i)) 16 = c.of-rows.ensures ∙ rw (code 0 (omega arith), code 1 (omega arith), code 2 (omega arith), code 3 (omega arith)) (rows_code p b) in
+    indexed_is c.of-rows.result _ _ _ I
+    (rw (sum 0 (omega arith), sum 1 (omega arith), sum 2 (omega arith), sum 3 (omega arith)) (rows_sum p b ∙ sum_abs (λ i. off6 p (pixel_at b i))))
 
 pub block-closest-spec : {M : Type 1} → statement M
 block-closest-spec =

@@ -3,14 +3,14 @@ use Prim.Native.Nat.{ℕ, ◌-◌}
 use native.Mathlib.Omega.{arith}
 use lib.Ieee.{nan}
 use borrow.Author.Rules.{rules}
-use Rattle.block.specs.Samples.{pixelAt}
+use Rattle.block.specs.Samples.{pixel_at}
 use Rattle.block.proofs.Fill.{Filled, fill_start, fill_step, fill_end}
 use Rattle.palette.specs.Closest.{weight, weights}
 use Rattle.palette.proofs.inter6.Inter6Palette.block_closest_weights.Statement.{statement}
 use Rattle.palette.proofs.inter6.Inter6Palette.block_closest_weights.Tie as tie
 
 abbrev invariant-loop : tie.invariant-loop
-invariant-loop self b w₀ i₀ w i = Filled nan (λ (k : ℕ). weight self (pixelAt b k)) 16 w i
+invariant-loop self b w₀ i₀ w i = Filled nan (λ (k : ℕ). weight self (pixel_at b k)) 16 w i
 
 abbrev decreases-loop : tie.decreases-loop
 decreases-loop self b w₀ i₀ w i = 16 - i

@@ -1,5 +1,5 @@
 use native.Mathlib.Omega.{arith}
-use Rattle.palette.specs.Rows.{rowCode, rowSum}
+use Rattle.palette.specs.Rows.{row_code, row_sum}
 use borrow.Author.Rules.{rules}
 use Rattle.palette.proofs.inter6.Inter6Palette.four.Statement.{statement}
 use Rattle.palette.proofs.inter6.Inter6Palette.four.Tie as tie
@@ -20,7 +20,7 @@ four-requires : tie.Need-four-requires
 four-requires c κs = search rules
 
 returns : tie.Need-returns
-unfolding rowCode rowSum
+unfolding row_code row_sum
 returns c =
     let f = c.before.before.before.before in
     let m = f.before in (

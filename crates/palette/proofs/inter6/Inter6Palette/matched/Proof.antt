@@ -2,7 +2,7 @@ use mathlib.Core.Path.{◌≡◌, refl}
 use native.Mathlib.Omega.{arith}
 use Rattle.palette.specs.Closest.{blend7}
 use Rattle.palette.specs.Rows.{index6}
-use Rattle.palette.proofs.ClosestLaws.{map-lt, blend7-le}
+use Rattle.palette.proofs.ClosestLaws.{map_lt, blend7_le}
 use borrow.Author.Rules.{rules}
 use Rattle.palette.proofs.inter6.Inter6Palette.matched.Statement.{statement}
 use Rattle.palette.proofs.inter6.Inter6Palette.matched.Tie as tie
@@ -22,7 +22,7 @@ returns c =
     let p = k.before.args.self in
     let x = k.before.args.pixel in
     let e : c.before.index_of.result ≡ index6 p x = rw (← k.blend7.ensures.0) c.before.index_of.ensures in
-    (e, omega (arith, e, map-lt (blend7 p x) (blend7-le p x)), rw c.value.ensures refl)
+    (e, omega (arith, e, map_lt (blend7 p x) (blend7_le p x)), rw c.value.ensures refl)
 
 pub matched-spec : {M : Type 1} → statement M
 matched-spec = tie.close (tie.spec blend7-requires index-of-requires value-requires returns)
