@@ -9,7 +9,7 @@ from functools import partial
 
 import block_rules
 from block_rules import bits, block_error, decoded, every_index, tile_blocks
-from given import EQUAL_PAIR, SIXTEEN, checksum, format_of, given_bytes, later_samples, named, samples, write
+from given import SIXTEEN, checksum, format_of, given_bytes, later_samples, named, samples, write
 from refusals import FAR, FARTHEST, count_check, first, in_both, nan_check, size_checks
 
 encoded = partial(block_rules.encoded, sys.argv[1])
@@ -152,7 +152,6 @@ def value_lines():
     yield value_line("0 and 1", "-inf and inf", ends(255, 0), ends(0, 255))
     yield value_line("0 and 1", "-inf and inf", ends(127, 0x81), ends(0x81, 127), snorm=True)
     yield value_line("-3.5 and 2.5", "0 and 1", ends(0x81, 0x80), ends(0x80, 0x81), snorm=True)
-    yield value_line("all 0", "all 1", EQUAL_PAIR.hex(), EQUAL_PAIR.hex(), snorm=True)
     yield slope_line(FIRST[0], SECOND[0], dither=True)
     yield slope_line(SIGNED_FIRST[0], SIGNED_SECOND[0], dither=True, snorm=True)
     yield slope_line(SECOND[0], FIRST[0])

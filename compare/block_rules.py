@@ -1,4 +1,4 @@
-"""Blocks by documents 01 and 02: what eight bytes decode to, how far off samples are, and the Rust's bytes of a block. For the scripts beside it.
+"""Blocks by document 01: what eight bytes decode to, how far off samples are, and the Rust's bytes of a block. For the scripts beside it.
 
 Nothing of the library is asked. A step in f32 is the exact fraction rounded once. Encoded bytes come from the Rust text's program, which is given one record
 of 68 bytes for each block."""
@@ -47,17 +47,16 @@ def bits(x):
 # ---- eight bytes
 
 
-def signed(byte):
-    """A signed endpoint byte, -128 taken as -127 whatever is asked of it: document 02, 6/12."""
-    return max(byte - 256 if byte >= 128 else byte, -127)
-
-
 def value(byte, snorm):
-    return f32(Fraction(signed(byte) + 127, 254) if snorm else Fraction(byte, 255))
+    if not snorm:
+        return f32(Fraction(byte, 255))
+    signed = byte - 256 if byte >= 128 else byte
+    return f32(Fraction(max(signed, -127) + 127, 254))
 
 
 def is_six(c0, c1, snorm):
-    return signed(c0) > signed(c1) if snorm else c0 > c1
+    signed = lambda b: b - 256 if b >= 128 and snorm else b
+    return signed(c0) > signed(c1)
 
 
 def eight_values(c0, c1, snorm):

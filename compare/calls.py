@@ -1,5 +1,5 @@
 #!/usr/bin/env python3
-"""calls.py ORACLE OUT: the lines that the program `calls` has to print, worked out from document 01 and document 02, 2/12 and 6/12, and written to OUT.
+"""calls.py ORACLE OUT: the lines that the program `calls` has to print, worked out from document 01 and document 02, 2/12, and written to OUT.
 
 Nothing of the library is asked: refusals by refusals.py, decoding and block errors by block_rules.py, which takes encoded bytes from ORACLE, the Rust text's
 program. The order of the cases is that of crates/calls/src."""
@@ -8,7 +8,7 @@ from functools import partial
 
 import block_rules
 from block_rules import bits, block_error, decoded, every_index, indexes, tile_blocks
-from given import EQUAL_PAIR, SIXTEEN, checksum, format_of, given_bytes, named, samples, write
+from given import SIXTEEN, checksum, format_of, given_bytes, named, samples, write
 from refusals import FAR, FARTHEST, count_check, first, nan_check, size_checks
 
 encoded = partial(block_rules.encoded, sys.argv[1])
@@ -110,11 +110,8 @@ def decode_lines():
         valued(every_index(*pair), False)
     for pair in [(127, 0x81), (0x81, 127), (127, 0x80), (0x80, 127), (1, 255), (255, 1), (0x55, 0x55)]:
         valued(every_index(*pair), True)
-    for pair in [(0x81, 0x80), (0x80, 0x81), (0x80, 0x80), (0x82, 0x80), (0x80, 0x82)]:
-        valued(every_index(*pair), True)
-    for pair in [(0x81, 0x80), (0x80, 0x81)]:
-        valued(every_index(*pair), False)
-    valued(EQUAL_PAIR, True)
+    valued(every_index(0x81, 0x80), True)
+    valued(every_index(0x80, 0x81), True)
     valued(bytes([0, 255]) + indexes([2] * 16), False)
 
 
@@ -151,8 +148,6 @@ def error_lines():
     valued("-inf and inf", six, True)
     valued("all 0", bytes(8), False)
     valued("all 0", bytes([255] * 8), False)
-    valued("all 1", EQUAL_PAIR, True)
-    valued("all 0", EQUAL_PAIR, True)
 
 
 def resend_lines():
@@ -187,8 +182,6 @@ def resend_lines():
         valued("all 0", held, False)
     for held in ["8080b66ddbb66ddb", "8181000000000000"]:
         valued("all 0", held, True)
-    for name in ["all 0", "all 1"]:
-        valued(name, EQUAL_PAIR.hex(), True)
     for held in ["5600b95dcee5244c", "5107c95dcee5044c", "0000000000000000", "5600b95dcee52400"]:
         valued("slopes", held, False)
     for held in ["d781b95dcee5246c", "d383b95dcee5044c", "8181000000000000", "d781b95dcee52400"]:

@@ -18,13 +18,13 @@ unsafe extern "C" {
     ) -> u8;
 }
 
-// ---- document 01, "Eight bytes", in exact fractions and in f32, and document 02, 6/12: of signed ends -128 is -127 before they are compared
+// ---- document 01, "Eight bytes", in exact fractions and in f32
 
 fn is_six([c0, c1]: [u8; 2], snorm: bool) -> bool {
-    match (snorm, c0, c1) {
-        (true, 0x81, 0x80) => false,
-        (true, ..) => c0 as i8 > c1 as i8,
-        (false, ..) => c0 > c1,
+    if snorm {
+        c0 as i8 > c1 as i8
+    } else {
+        c0 > c1
     }
 }
 

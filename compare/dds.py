@@ -34,30 +34,26 @@ def check(differs, text):
 # ---- eight bytes: a value is a fraction from 0 to 1
 
 
-def as_signed(byte):
-    return byte - 256 if byte >= 128 else byte
-
-
-def end(byte, signed):
-    return Fraction(max(as_signed(byte), -127) + 127, 254) if signed else Fraction(byte, 255)
+def in_order(byte, signed):
+    return byte - 256 if signed and byte >= 128 else byte
 
 
 def is_six(c0, c1, signed):
-    """Whether c0 means more than c1: of signed bytes -128 is taken as -127 first."""
-    return end(c0, signed) > end(c1, signed)
+    return in_order(c0, signed) > in_order(c1, signed)
 
 
-def blend(x, y, index, six):
-    """Of two ends one of their eight values, 6 and 7 of the four-value mode left out."""
-    if index < 2:
-        return (x, y)[index]
-    return ((8 - index) * x + (index - 1) * y) / Fraction(7) if six else ((6 - index) * x + (index - 1) * y) / Fraction(5)
+def end(byte, signed):
+    return Fraction(max(in_order(byte, True), -127) + 127, 254) if signed else Fraction(byte, 255)
 
 
 @lru_cache(None)
 def value(c0, c1, index, signed):
-    six = is_six(c0, c1, signed)
-    return blend(end(c0, signed), end(c1, signed), index, six) if six or index < 6 else Fraction(index - 6)
+    x, y = end(c0, signed), end(c1, signed)
+    if index < 2:
+        return (x, y)[index]
+    if is_six(c0, c1, signed):
+        return ((8 - index) * x + (index - 1) * y) / 7
+    return ((6 - index) * x + (index - 1) * y) / 5 if index < 6 else Fraction(index - 6)
 
 
 def block(c0, c1, indexes):
@@ -234,12 +230,11 @@ def floor_level(c0, c1, index, signed):
 
 
 def ffmpeg_level(c0, c1, index, signed):
-    """floor(255 v); of signed files what the bytes + 128 blend to, compared as written, -128 a level of its own; index 6 of four-value blocks is 0"""
+    """floor(255 v); of signed files floor(254 v + 1), but index 6 of four-value blocks as 0"""
     if not signed:
         return floor_level(c0, c1, index, False)
-    x, y = as_signed(c0) + 128, as_signed(c1) + 128
-    shown = floor(blend(x, y, index, x > y)) if x > y or index < 6 else 255 * (index - 6)
-    return 254 * value(c0, c1, index, True) + 1, [shown]
+    x = 254 * value(c0, c1, index, True) + 1
+    return x, [0 if index == 6 and not is_six(c0, c1, True) else floor(x)]
 
 
 def unsigned_level(c0, c1, index, _):
@@ -280,18 +275,21 @@ OURS = Reader("picture", "ours", None, None, FORMATS, by_picture, nearest_level)
 
 
 def compare(reader, file, answer):
-    """A line on all pixels, and of a signed file one on each of 81 80 and 80 81, if it has them."""
+    """A line on all pixels. For other readers signed pairs with 80, which they are known to take otherwise, are told apart and not counted."""
     if len(answer) != len(file.pixels):
         return check(True, f"{reader.name}, {file.name}: does not open")
     seen = Counter(zip(file.pixels, answer))
-    wrong, text, examples = weighed(reader, file, seen)
+    known = {pair: n for pair, n in seen.items() if file.signed and reader != OURS and 0x80 in parted(pair[0])[:2]}
+    wrong, text, examples = weighed(reader, file, {pair: n for pair, n in seen.items() if pair not in known})
     check(wrong, text)
     for pixel, got, x in sorted(examples)[:5]:
         print("   {:02x} {:02x} index {}:".format(*parted(pixel)), f"{got}, by the rules {float(x):.4f}")
+    if known:
+        print("known:", weighed(reader, file, known)[1] + "; pairs with 80")
     for c0, c1 in [(0x81, 0x80), (0x80, 0x81)]:
-        row = sorted({(pixel & 7, got) for pixel, got in seen if parted(pixel)[:2] == (c0, c1)})
-        if file.signed and len(row) == 8:
-            print(f"   {c0:02x} {c1:02x}, indexes 0 to 7:", *[got for _, got in row])
+        row = sorted((pixel & 7, got) for pixel, got in known if parted(pixel)[:2] == (c0, c1))
+        if row:
+            print(f"known: {reader.name}, {file.name}: {c0:02x} {c1:02x}, indexes 0 to 7:", *[got for _, got in row])
 
 
 def weighed(reader, file, seen):

@@ -24,9 +24,6 @@ def halves(a, b):
     return [a] * 8 + [b] * 8
 
 
-# signed, -127 and -128: compared as an equal pair, so that index 7 is 1
-EQUAL_PAIR = bytes([0x81, 0x80] + [0xFF] * 6)
-
 # sixteen samples by the name that a line gives them
 SIXTEEN = {
     "slopes": samples(16),

@@ -20,7 +20,7 @@
 #include <stdint.h>
 
 /* Major, minor and patch number of this header, a byte each. */
-#define BC4_VERSION 0x040000u
+#define BC4_VERSION 0x030200u
 
 /* ---- refusals */
 #define BC4_OK 0u                      /* none */
@@ -99,8 +99,7 @@ uint32_t bc4_version(void);
    Refuses BC4_SAMPLE_COUNT, BC4_SAMPLE_IS_NAN, BC4_WORD_MALFORMED. */
 uint32_t bc4_encode_block(const float *samples, size_t sample_count, uint32_t options, uint8_t *block, bc4_detail *detail);
 
-/* Decodes eight bytes into samples[0..15], each in 0 to 1, signed blocks on the scale that bc4_encode_block has. A signed endpoint byte -128 is taken as -127
-   before anything else: with -127 it is an equal pair, which means the mode of four values, 0 and 1. No encoder here writes it.
+/* Decodes eight bytes into samples[0..15], each in 0 to 1, signed blocks on the scale that bc4_encode_block has.
    Refuses BC4_ENCODED_LENGTH. */
 uint32_t bc4_decode_block(const uint8_t *encoded, size_t encoded_length, bool snorm, float *samples, bc4_detail *detail);
 

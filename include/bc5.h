@@ -20,7 +20,7 @@ extern "C" {
 uint32_t bc5_encode_block(const float *first, size_t first_count, const float *second, size_t second_count, uint32_t options, uint8_t *block,
                           bc4_detail *detail);
 
-/* Decodes sixteen bytes into first[0..15] and second[0..15], each sample in 0 to 1, each half as bc4_decode_block does.
+/* Decodes sixteen bytes into first[0..15] and second[0..15], each sample in 0 to 1.
    Refuses BC4_ENCODED_LENGTH. */
 uint32_t bc5_decode_block(const uint8_t *encoded, size_t encoded_length, bool snorm, float *first, float *second, bc4_detail *detail);
 

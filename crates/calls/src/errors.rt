@@ -1,7 +1,7 @@
 // Block error: refusals 2, 3 and 7. An error is shown by its bits.
 use bc4::Scored;
 use cases::{given, show};
-use given::{EQUAL_PAIR, NONE, Sixteen};
+use given::{NONE, Sixteen};
 
 // Both modes, with the indexes 0 to 7, twice.
 const SIX: [u8; 8] = [0xc8, 0x0a, 0x88, 0xc6, 0xfa, 0x88, 0xc6, 0xfa];
@@ -100,8 +100,6 @@ fn infinite() {
 fn ends() {
     valued(Sixteen::Zeros, [0; 8], false);
     valued(Sixteen::Zeros, [0xff; 8], false);
-    valued(Sixteen::Ones, EQUAL_PAIR, true);
-    valued(Sixteen::Zeros, EQUAL_PAIR, true);
 }
 
 pub fn cases() {

@@ -1,7 +1,7 @@
 // Resend: refusals 2, 3, 5 and 7.
 use bc4::{Kept, Options, Resent};
 use cases::{given, show};
-use given::{EQUAL_PAIR, NONE, Sixteen};
+use given::{NONE, Sixteen};
 
 // The bytes to hold, after a word for the flag.
 fn held_or_fresh(h: Kept) {
@@ -114,12 +114,6 @@ fn ties() {
     zeros([0x81, 0x81, 0x00, 0x00, 0x00, 0x00, 0x00, 0x00], true);
 }
 
-// What is held is all 1: as far from all 0 as can be, so replaced, and from all 1 not at all.
-fn equal_pair() {
-    zeros(EQUAL_PAIR, true);
-    valued(Sixteen::Ones, EQUAL_PAIR, true);
-}
-
 // The fresh bytes themselves; better ones, which the search found; and worse ones, which are replaced.
 fn values() {
     slopes([0x56, 0x00, 0xb9, 0x5d, 0xce, 0xe5, 0x24, 0x4c], false);
@@ -149,7 +143,6 @@ pub fn cases() {
     two_together();
     more_together();
     ties();
-    equal_pair();
     values();
     signed_values();
     infinite();

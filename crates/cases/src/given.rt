@@ -5,9 +5,6 @@ use refusal::Channel;
 // Past any sample that is given: no NaN.
 pub const NONE: usize = 0xffff_ffff;
 
-// Signed, -127 and -128, which are compared as -127 and -127: four values, of which index 7 is 1, sixteen times.
-pub const EQUAL_PAIR: [u8; 8] = [0x81, 0x80, 0xff, 0xff, 0xff, 0xff, 0xff, 0xff];
-
 // A multiple of 4 whose products with a side do not fit.
 pub const FAR: usize = 0xffff_ffff_ffff_fffc;
 

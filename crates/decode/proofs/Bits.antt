@@ -16,7 +16,7 @@ abbrev pub Units : Float → ℕ → Type 0
 Units x n = HasValue x false n (2 ^ 149)
 
 -- a float has one sign and one size
-value_same : (x : Float) (s t : Bool) (a b c : ℕ) → HasValue x s a c → HasValue x t b c → (s ≡ t) × (a ≡ b)
+pub value_same : (x : Float) (s t : Bool) (a b c : ℕ) → HasValue x s a c → HasValue x t b c → (s ≡ t) × (a ≡ b)
 value_same nan s t a b c p q = absurd p
 value_same (inf u) s t a b c p q = absurd p
 value_same (fin u m e) s t a b c p q = (sym p.0 ∙ q.0, eq_of_mul-eq-mul_right (down e) (down_pos e) a b (sym p.1 ∙ q.1))

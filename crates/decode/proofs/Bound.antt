@@ -18,8 +18,7 @@ use Rattle.decode.specs.Meaning.{is_six, six_values, table_of, value_at, block_i
 use Rattle.decode.specs.Exact.{nearness, parts_of, exact_four, exact_num, exact_den, magnitude, Close}
 use Rattle.decode.proofs.Laws.{decoded_at, byte_lt, index_lt}
 use Rattle.decode.proofs.Bits.{to_bits_units}
-use Rattle.decode.proofs.Mode.{six_levels}
-use Rattle.decode.proofs.Ends.{Near, End, end_at, ends_order}
+use Rattle.decode.proofs.Ends.{Near, End, end_at, ends_order, below_level}
 use Rattle.decode.proofs.Blends.{times, six_blend, Fifth, one_fifth, two_fifths, three_fifths, four_fifths, four_blend}
 
 -- x is num / den up to 2 ^ 128 units, which are 1 / 2,097,152
@@ -152,7 +151,7 @@ module _ (snorm : Bool) (c0 c1 k : ℕ) (H0 : c0 < 256) (H1 : c1 < 256) (K : k <
   six_at e =
       let X = end_at snorm c0 H0 in
       let Y = end_at snorm c1 H1 in
-      six_bounded d n0 n1 x y X Y (ends_order snorm n1 n0 (six_levels snorm c0 c1 H0 H1 e) X Y) k K
+      six_bounded d n0 n1 x y X Y (ends_order snorm n1 n0 (below_level snorm c1 c0 H1 H0 e).0 X Y) k K
 
   pub value_bounded : Bounded (value_at snorm c0 c1 k) (exact_num snorm c0 c1 k) (exact_den snorm c0 c1)
   unfolding table_of exact_num exact_den

@@ -1,19 +1,22 @@
 -- The ends' floats beside the fractions that they stand for.
 -- In this file and the next ones `t` is 2 ^ 123 units: 1 is 67108864 * t, and half the last place of a value up to 1 is 2 * t. It stays a variable
 -- wherever `omega` is used, which takes no number of more than 38 digits.
-use mathlib.Core.Path.{◌≡◌}
-use Prim.Native.Nat.{ℕ, suc, ◌+◌, ◌*◌, ◌^◌, ◌≤◌, ◌<◌}
-use native.Mathlib.Nat.{le_trans, le_of_eq, le_of_mul-le-mul_left, mul_comm, mul_left_comm, mul-le-mul_right, suc-mul}
+use mathlib.Core.Path.{◌≡◌, sym, ◌∙◌, subst}
+use mathlib.Core.Logic.{inl, inr}
+use Prim.Native.Nat.{ℕ, suc, ◌+◌, ◌*◌, ◌%◌, ◌^◌, ◌≤◌, ◌<◌}
+use native.Mathlib.Nat.{le_trans, le_of_eq, le_of_mul-le-mul_left, eq-or-lt_of_le, mul_comm, mul_left_comm, mul-le-mul_right, suc-mul}
 use native.Mathlib.Omega.{arith}
 use mathlib.Core.Bool.{Bool, true, false}
-use lib.Dec.{T, lit≤, lit<}
+use lib.Dec.{T, ltb→lt, lit≤, lit<}
 use lib.Ieee.{Float, binary32, fits}
 use Rattle.floats.specs.Arithmetic.{◌⊘◌, whole}
+use Rattle.floats.proofs.Tests.{so}
 use Rattle.floats.proofs.Rounding.{Off}
 use Rattle.floats.proofs.RoundedResult.{ratio, whole_at}
-use Rattle.values.specs.Values.{steps, level_of, level_value, value_of}
+use Rattle.values.specs.Values.{steps, level_of, level_value, value_of, byte_below}
 use Rattle.values.proofs.Levels.{level_le}
-use Rattle.decode.proofs.Bits.{Units}
+use Rattle.values.proofs.SignedBytes.{signed_order}
+use Rattle.decode.proofs.Bits.{Units, value_same}
 
 -- x is r units, and den times that is num up to e
 pub record Near (x : Float) (den num e : ℕ) : Type 0 where
@@ -65,6 +68,20 @@ apart t d a b n0 n1 D h o p =
     let z : d * t ≤ 16777216 * t = mul-le-mul_right t D in
     omega arith
 
-pub ends_order : (snorm : Bool) (m n : ℕ) → m < n → (X : End (level_value n snorm) (steps snorm) n) (Y : End (level_value m snorm) (steps snorm) m) → Y.near.r ≤ X.near.r
+pub ends_order : (snorm : Bool) (m n : ℕ) → m ≤ n → (X : End (level_value n snorm) (steps snorm) n) (Y : End (level_value m snorm) (steps snorm) m) → Y.near.r ≤ X.near.r
 ends_order snorm m n h X Y =
-    le_of_mul-le-mul_left (apart (2 ^ 123) (steps snorm) X.near.r Y.near.r n m (le_trans (steps_few snorm) (lit≤ tt)) h X.near.off Y.near.off) (steps_pos snorm)
+    elim (eq-or-lt_of_le h) [
+      | inl e ↦
+          le_of_eq (value_same (level_value n snorm) false false Y.near.r X.near.r (2 ^ 149)
+          (subst (λ (k : ℕ). Units (level_value k snorm) Y.near.r) e Y.near.val) X.near.val).1
+      | inr l ↦
+          le_of_mul-le-mul_left
+          (apart (2 ^ 123) (steps snorm) X.near.r Y.near.r n m (le_trans (steps_few snorm) (lit≤ tt)) l X.near.off Y.near.off) (steps_pos snorm)
+    ]
+
+-- the lower of two bytes has no higher level, and not the highest one
+pub below_level : (snorm : Bool) (b c : ℕ) → b < 256 → c < 256 → byte_below b c snorm ≡ true → (level_of b snorm ≤ level_of c snorm) × (level_of b snorm < steps snorm)
+below_level true b c B C h =
+    let l : (b + 128) % 256 < (c + 128) % 256 = ltb→lt ((b + 128) % 256) ((c + 128) % 256) (so (sym (signed_order b c B C) ∙ h)) in
+    (omega arith, omega arith)
+below_level false b c B C h = let l : b < c = ltb→lt b c (so h) in (omega arith, omega arith)

@@ -26,8 +26,7 @@ use Rattle.decode.specs.Meaning.{is_six, six_values, table_of, value_at, block_i
 use Rattle.decode.specs.Exact.{nearness, parts_of}
 use Rattle.decode.proofs.Laws.{decoded_at, byte_lt, index_lt}
 use Rattle.decode.proofs.Bits.{Units}
-use Rattle.decode.proofs.Mode.{six_levels}
-use Rattle.decode.proofs.Ends.{steps_pos, steps_few}
+use Rattle.decode.proofs.Ends.{steps_pos, steps_few, below_level}
 use Rattle.decode.proofs.Bound.{Bounded, six_at}
 
 abbrev pub Unit : Float → Type 0
@@ -155,7 +154,7 @@ module _ (snorm : Bool) (c0 c1 : ℕ) (H0 : c0 < 256) (H1 : c1 < 256) where
   six_unit e (suc (suc k)) h =
       bounded_unit (entry (six_values (value_of c0 snorm) (value_of c1 snorm)) (suc (suc k))) (parts_of 7 (level_of c0 snorm) (level_of c1 snorm) (suc (suc k))) (7 * steps snorm)
       (sevenths_pos (steps snorm) (steps_pos snorm))
-      (exact_below (steps snorm) (level_of c0 snorm) (level_of c1 snorm) k (level_le snorm c0 H0) (le_trans (six_levels snorm c0 c1 H0 H1 e) (level_le snorm c0 H0)) (omega arith))
+      (exact_below (steps snorm) (level_of c0 snorm) (level_of c1 snorm) k (level_le snorm c0 H0) (below_level snorm c1 c0 H1 H0 e).1 (omega arith))
       (sevenths_few (steps snorm) (steps_few snorm))
       (six_at snorm c0 c1 (suc (suc k)) H0 H1 h e)
 

@@ -1,19 +1,15 @@
 -- What eight bytes mean. Document 01, "Eight bytes". A block is one number, byte 0 lowest: byte 0 is c0, byte 1 is c1, and from bit 16 on
 -- stand the sixteen indexes, pixel i at bit 3i of these.
-use Rattle.std.specs.Prelude.{List, [], ◌∷◌, Bool, cond, ◌&&◌, ℕ, ◌/◌, ◌^◌, eqb, Float}
+use Rattle.std.specs.Prelude.{List, [], ◌∷◌, Bool, cond, ℕ, ◌/◌, ◌^◌, Float}
 use Rattle.values.specs.Values.{value_of, byte_below}
 use Rattle.index_list.specs.Indexes.{index_at}
 use Rattle.index_list.specs.Layout.{byte_at}
 use Rattle.block.specs.Samples.{per_pixel}
 use Rattle.palette.specs.Palettes.{entry, inter6_palette, blended, colors}
 
--- An endpoint byte as it is compared. Document 02, 6/12: of the signed ones -128 is taken as -127.
-abbrev pub taken_byte : ℕ → Bool → ℕ
-taken_byte b snorm = cond (snorm && eqb b 0x80) 0x81 b
-
--- The mode: c0 > c1 as the bytes are taken, signed for snorm, means six values, and anything else four.
+-- The mode: c0 > c1 as the bytes are written, signed for snorm, means six values, and anything else four.
 abbrev pub is_six : ℕ → ℕ → Bool → Bool
-is_six c0 c1 snorm = byte_below (taken_byte c1 snorm) (taken_byte c0 snorm) snorm
+is_six c0 c1 snorm = byte_below c1 c0 snorm
 
 -- Six values of two ends, by index: 0 and 1 are the ends themselves, k from 2 on is 8 - k sevenths from c1 towards c0 as `closest` has it.
 -- Index 0 is not 7 sevenths of that kind, which may differ in the last bit.

@@ -2,30 +2,18 @@
 ghost use Rattle.std.specs.Prelude.{◌≡◌, [], ◌∷◌};
 ghost use Rattle.values.specs.Values.{level_value};
 ghost use Rattle.block.specs.Samples.{per_pixel};
-ghost use Rattle.decode.specs.Meaning.{taken_byte, is_six, six_values, eight_of, picked, decoded};
+ghost use Rattle.decode.specs.Meaning.{is_six, six_values, eight_of, picked, decoded};
 ghost use Rattle.decode.specs.BlockError.{sample_error, error_to, block_error};
 
 use index_list::IndexList;
 use palette::inter4::Inter4Palette;
 use palette::inter6::Inter6Palette;
 
-// An endpoint byte as it is compared: of the signed ones -128 is taken as -127.
-fn taken_byte(b: u8, snorm: bool) -> u8
-    ensures { result ≡ taken_byte b snorm }
-{
-    if snorm {
-        if b == 0x80 {
-            return 0x81;
-        }
-    }
-    b
-}
-
-// Whether two endpoint bytes mean six values: c0 > c1 as they are taken, signed for snorm.
+// Whether two endpoint bytes mean six values: c0 > c1, signed for snorm.
 pub fn is_six(c0: u8, c1: u8, snorm: bool) -> bool
     ensures { result ≡ is_six c0 c1 snorm }
 {
-    values::byte_below(taken_byte(c1, snorm), taken_byte(c0, snorm), snorm)
+    values::byte_below(c1, c0, snorm)
 }
 
 fn six_values(c0: f32, c1: f32) -> [f32; 8]

@@ -24,8 +24,7 @@ use Rattle.bcn_util.proofs.DitherLaws.{indexes_filled}
 use Rattle.options.specs.declared.Options.{Options}
 use Rattle.coding.specs.Coding.{rule_of, ended, ends_in}
 use Rattle.search.specs.Covered.{ends_of}
-use Rattle.decode.specs.Meaning.{is_six, value_at, decoded}
-use Rattle.decode.proofs.Mode.{mode_written}
+use Rattle.decode.specs.Meaning.{value_at, decoded}
 use Rattle.decode.proofs.Chosen.{six_chosen, four_chosen, first_value, packed_decoded}
 use Rattle.demands.specs.RoundTrip.{meant, asked, Choice, by_palette, by_level, CanChoose, Chosen}
 
@@ -48,19 +47,15 @@ pair_ready Six min max h l = record { made = bytes_made max min (omega arith) (o
 pair_ready Four min max h l = record { made = bytes_made min max (omega arith) (omega arith); mode = lt-ltb min max h }
 
 -- ---- one answer of a palette
--- the decoder's mode is that of the bytes as they are written: -128 is none of them
-made_mode : (snorm : Bool) (e : EndPoints) → Made snorm e → is_six e.c0 e.c1 snorm ≡ byte_below e.c1 e.c0 snorm
-made_mode snorm e m = mode_written snorm e.c0 e.c1 m.c0_lt m.c1_lt (λ h. m.sound.c1_written h.0 h.2)
-
 rule_meant : (snorm : Bool) (kind : Kind) (e : EndPoints) → Ready snorm kind e → (x : Float)
     → value_at snorm e.c0 e.c1 (rule_of kind e x).index ≡ meant kind e (rule_of kind e x)
 rule_meant snorm Six e r x =
     let m = r.made in
-    rw (m.sound.c0_float, m.sound.c1_float) (six_chosen snorm e.c0 e.c1 m.c0_lt m.c1_lt (made_mode snorm e m ∙ r.mode) x)
+    rw (m.sound.c0_float, m.sound.c1_float) (six_chosen snorm e.c0 e.c1 m.c0_lt m.c1_lt r.mode x)
 rule_meant snorm Four e r x =
     let m = r.made in
     rw (m.sound.c0_float, m.sound.c1_float)
-    (four_chosen snorm e.c0 e.c1 m.c0_lt m.c1_lt (made_mode snorm e m ∙ byte_below_asym snorm e.c0 e.c1 m.c0_lt m.c1_lt r.mode) x)
+    (four_chosen snorm e.c0 e.c1 m.c0_lt m.c1_lt (byte_below_asym snorm e.c0 e.c1 m.c0_lt m.c1_lt r.mode) x)
 
 -- ---- a whole choice
 abbrev pub bytes_by : Choice → ℕ

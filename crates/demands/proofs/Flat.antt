@@ -30,15 +30,12 @@ ones : min_max (entered (per_pixel (λ i. f1))) ≡ record { 0 = f1; 1 = f1 }
 unfolding entered min_max smallest largest element tabulate of_bits lt
 ones = refl
 
-module _ (o : Options) where
-  -- the search is unsigned
-  unsearched : o.snorm ≡ true → searches o ≡ false
-  unsearched e = rw e (never (o.brute_force && not o.dither))
-    where
-      never : (t : Bool) → t && not true ≡ false
-      never true = refl
-      never false = refl
+-- the search is unsigned
+unsearched : (t : Bool) → t && not true ≡ false
+unsearched true = refl
+unsearched false = refl
 
+module _ (o : Options) where
   pub flat_0 : o.snorm ≡ false → searches o ≡ false → compressed (per_pixel (λ i. f0)) o ≡ 0
   unfolding closest of_bytes level_value filled_to of_bits of_int add mul div sub lt to_unsigned
   flat_0 e a = rw (flat_encoded (per_pixel (λ i. f0)) o (record { 0 = f0; 1 = f0 }) zeros a refl (rw e refl), e)
@@ -49,8 +46,4 @@ module _ (o : Options) where
 
   pub flat_signed_0 : o.snorm ≡ true → compressed (per_pixel (λ i. f0)) o ≡ 0x8181
   unfolding closest of_bytes level_value filled_to of_bits of_int add mul div sub lt to_unsigned
-  flat_signed_0 e = rw (flat_encoded (per_pixel (λ i. f0)) o (record { 0 = f0; 1 = f0 }) zeros (unsearched e) refl (rw e refl), e)
-
-  pub flat_signed_1 : o.snorm ≡ true → compressed (per_pixel (λ i. f1)) o ≡ 0x817f
-  unfolding closest of_bytes level_value filled_to of_bits of_int add mul div sub lt to_unsigned
-  flat_signed_1 e = rw (flat_encoded (per_pixel (λ i. f1)) o (record { 0 = f1; 1 = f1 }) ones (unsearched e) refl (rw e refl), e)
+  flat_signed_0 e = rw (flat_encoded (per_pixel (λ i. f0)) o (record { 0 = f0; 1 = f0 }) zeros (rw e (unsearched (o.brute_force && not o.dither))) refl (rw e refl), e)

@@ -18,4 +18,3 @@ pub mod SameSteps
 pub mod Literals
 pub mod Choices
 pub mod RoundTrip
-pub mod Minus128

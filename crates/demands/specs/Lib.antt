@@ -11,6 +11,5 @@ pub mod SameSteps
 pub mod WorkedValues
 pub mod Literals
 pub mod RoundTrip
-pub mod Minus128
 pub mod DdsFiles
 pub mod Station

@@ -15,12 +15,12 @@ use bc4::word::Word;
 use bc4::{Checked, Encoded, Refusal, Resent, Scored, Tiled};
 use dds::{Found, Written};
 
-// Major, minor and patch number, a byte each: 4.0.0.
+// Major, minor and patch number, a byte each: 3.2.0.
 #[unsafe(no_mangle)]
 pub extern "C" fn bc4_version() -> u32
-    ensures { result ≡ 0x040000 }
+    ensures { result ≡ 0x030200 }
 {
-    0x040000
+    0x030200
 }
 
 fn word_in(options: u32) -> Word
