@@ -1,5 +1,6 @@
 // What a board and a station link: document 01, "Calls and numbers". A block's eight bytes are handed back as one number, byte 0 lowest; `bytes`
 // lays them out.
+#![tactic(auto)]
 ghost use Rattle.std.specs.Prelude.{◌≡◌, length};
 ghost use Rattle.index_list.specs.Layout.{bytes_of};
 ghost use Rattle.refusal.specs.Refusals.{first_of, decode_checks, view_checks};
@@ -10,32 +11,32 @@ pub mod word;
 pub use options::{Options, Quantization};
 pub use refusal::{Checked, Refusal, Side, Spot, number};
 
-#[derive(Drop)]
+#[derive(Clone, Copy)]
 pub enum Encoded {
     Block(u64),
     Refused(Refusal),
 }
 
-#[derive(Drop)]
+#[derive(Clone, Copy)]
 pub enum Scored {
     Error(f32),
     Refused(Refusal),
 }
 
 // The bytes to hold from now on, and whether they are the fresh ones.
-#[derive(Drop)]
+#[derive(Clone, Copy)]
 pub struct Kept {
     pub block: u64,
     pub fresh: bool,
 }
 
-#[derive(Drop)]
+#[derive(Clone, Copy)]
 pub enum Resent {
     Block(Kept),
     Refused(Refusal),
 }
 
-#[derive(Drop)]
+#[derive(Clone, Copy)]
 pub enum Tiled {
     // So many bytes were written.
     Written(usize),

@@ -7,7 +7,7 @@ use crate::{Encoded, Resent, Tiled};
 use options::{Options, Quantization};
 
 // The options of a malformed word matter only to what is checked before it: a resend with dither.
-#[derive(Drop)]
+#[derive(Clone, Copy)]
 pub struct Word {
     pub options: Options,
     pub malformed: bool,

@@ -1,5 +1,6 @@
 // Two channels, as a current map has them: document 02, 3/12. A block is sixteen bytes, the first channel's BC4 block and then the second's. A call looks at
 // both channels before it makes either half; each half is made by the function that makes it for `bc4`.
+#![tactic(auto)]
 ghost use Rattle.std.specs.Prelude.{◌≡◌, length};
 ghost use Rattle.refusal.specs.Refusals.{first_of};
 ghost use Rattle.bc4.specs.Calls.{samples_after};
@@ -13,39 +14,39 @@ pub use bc4::{Checked, Options, Quantization, Refusal, Tiled};
 pub use refusal::{Channel, Fault};
 
 // A block: its two halves, each as `bc4` hands it back.
-#[derive(Drop)]
+#[derive(Clone, Copy)]
 pub struct Halves {
     pub first: u64,
     pub second: u64,
 }
 
-#[derive(Drop)]
+#[derive(Clone, Copy)]
 pub enum Encoded {
     Block(Halves),
     Refused(Refusal),
 }
 
 // The block error of each channel.
-#[derive(Drop)]
+#[derive(Clone, Copy)]
 pub struct Errors {
     pub first: f32,
     pub second: f32,
 }
 
-#[derive(Drop)]
+#[derive(Clone, Copy)]
 pub enum Scored {
     Errors(Errors),
     Refused(Refusal),
 }
 
 // The halves to hold from now on, and of each whether it is the fresh one.
-#[derive(Drop)]
+#[derive(Clone, Copy)]
 pub struct Kept {
     pub first: bc4::Kept,
     pub second: bc4::Kept,
 }
 
-#[derive(Drop)]
+#[derive(Clone, Copy)]
 pub enum Resent {
     Block(Kept),
     Refused(Refusal),

@@ -1,5 +1,6 @@
 // Runs the tile call and the block view on two channels at the edges of every refusal and with every set of faults at once, and prints a line for each case:
 // what is given, and the answer with what lent memory holds after it. The file stdout beside src/ was worked out by compare/bc5_calls.py, not by this program.
+#![tactic(auto)]
 mod tiles;
 mod views;
 

@@ -7,7 +7,7 @@ use floats::Pair;
 // f32::EPSILON
 const EPSILON: f32 = 1.0 / 8388608.0;
 
-#[derive(Drop)]
+#[derive(Clone, Copy)]
 pub struct WeightMatrix {
     pub e01: f32,
     pub e11: f32,
@@ -18,7 +18,7 @@ pub struct WeightMatrix {
 }
 
 // The Rust's Option: a determinant that is too small is a case of its own.
-#[derive(Drop)]
+#[derive(Clone, Copy)]
 pub enum Inverse {
     Matrix(WeightMatrix),
     TooSmall,

@@ -106,7 +106,7 @@ pub fn bytes() -> [u8; 17] {
 }
 
 // Sixteen samples by what they are.
-#[derive(Drop)]
+#[derive(Clone, Copy)]
 pub enum Sixteen {
     Slopes,
     LaterSlopes,

@@ -1,4 +1,5 @@
 // What both compressions end with: palette, indexes, bytes.
+#![tactic(auto)]
 ghost use Rattle.std.specs.Prelude.{◌≡◌, cond};
 ghost use Rattle.coding.specs.Coding.{smaller as smaller_of, laid_out, ended as ended_of};
 
@@ -8,7 +9,7 @@ use palette::inter6::Inter6Palette;
 use palette::{Indexed, Kind};
 
 // The eight bytes as one number, byte 0 lowest, and the total error.
-#[derive(Drop)]
+#[derive(Clone, Copy)]
 pub struct Coded {
     pub bytes: u64,
     pub error: f32,

@@ -59,6 +59,6 @@ pub fn put(width: usize, height: usize, snorm: bool, out: &mut [u8])
     let all = fields_of(width, height, snorm);
     for k in 0..32usize {
         let field = fields::bytes_u32(all[k]);
-        bytes::copy(&field, &mut out[4 * k..4 * k + 4]);
+        out[4 * k..4 * k + 4].copy_from_slice(&field);
     }
 }

@@ -1,4 +1,5 @@
 // Document 02, 1/12: a BC4 tile as a DDS file, written into lent bytes, and read back as a part of the caller's file.
+#![tactic(auto)]
 ghost use Rattle.std.specs.Prelude.{◌≡◌, length};
 ghost use Rattle.refusal.specs.Refusals.{first_of};
 ghost use Rattle.dds.specs.Checks.{write_checks, read_checks};
@@ -9,7 +10,7 @@ mod reading;
 
 use refusal::{Checked, Refusal};
 
-#[derive(Drop)]
+#[derive(Clone, Copy)]
 pub enum Written {
     // The file is so many bytes.
     Bytes(usize),
@@ -17,7 +18,7 @@ pub enum Written {
 }
 
 // The tile that a file holds, and where its bytes start.
-#[derive(Drop)]
+#[derive(Clone, Copy)]
 pub struct Picture {
     pub width: usize,
     pub height: usize,
@@ -25,7 +26,7 @@ pub struct Picture {
     pub start: usize,
 }
 
-#[derive(Drop)]
+#[derive(Clone, Copy)]
 pub enum Found {
     File(Picture),
     Refused(Refusal),
@@ -57,7 +58,7 @@ pub fn write(tile: &[u8], width: usize, height: usize, snorm: bool, out: &mut [u
         Checked::Passed => {
             header::put(width, height, snorm, out);
             let end = header::LENGTH + tile.len();
-            bytes::copy(tile, &mut out[header::LENGTH..end]);
+            out[header::LENGTH..end].copy_from_slice(tile);
             Written::Bytes(end)
         }
     }

@@ -1,1 +1,2 @@
 // Theorems only: specs/ states them, proofs/ shows them.
+#![tactic(auto)]

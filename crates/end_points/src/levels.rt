@@ -3,7 +3,7 @@ ghost use Rattle.std.specs.Prelude.{◌≡◌, ◌≤◌};
 ghost use Rattle.values.specs.Values.{steps};
 ghost use Rattle.end_points.specs.Levels as L;
 
-#[derive(Drop)]
+#[derive(Clone, Copy)]
 pub struct Levels {
     pub low: u8,
     pub high: u8,

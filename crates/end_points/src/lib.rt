@@ -1,4 +1,5 @@
 // bc4.rs: EndPoints.
+#![tactic(auto)]
 ghost use Rattle.std.specs.Prelude.{◌≡◌, true, false};
 ghost use Rattle.std.specs.Float.Ieee.{le};
 ghost use Rattle.floats.specs.Arithmetic.{f0, f1};
@@ -10,7 +11,7 @@ pub mod levels;
 use floats::Pair;
 use index_list::IndexList;
 
-#[derive(Drop)]
+#[derive(Clone, Copy)]
 pub struct EndPoints {
     pub c0: u8,
     pub c1: u8,

@@ -1,5 +1,6 @@
 // The two fits of compress_inter6_impl, each in one pass down the lanes: weights and sums of a lane together are work enough for a turn that the
 // compiler makes one turn of four lanes.
+#![tactic(auto)]
 ghost use Rattle.std.specs.Prelude.{◌≡◌, ◌<◌};
 ghost use Rattle.floats.specs.Arithmetic.{◌⊕◌, ◌⊗◌};
 ghost use Rattle.fit.specs.Fit.{fitted as fitted_of};
@@ -11,7 +12,7 @@ use palette::inter6;
 use palette::inter6::Inter6Palette;
 
 // Four pixels down a lane: their weights w, the sums of w·w, w·v and v·v with v = 1 - w, and whether the blends are all above -1.
-#[derive(Drop)]
+#[derive(Clone, Copy)]
 pub struct Lane {
     pub w0: f32,
     pub w1: f32,
@@ -24,7 +25,7 @@ pub struct Lane {
 }
 
 // The sixteen weights by rows, and each lane's sums.
-#[derive(Drop)]
+#[derive(Clone, Copy)]
 pub struct Weighed {
     pub w0: [f32; 4],
     pub w1: [f32; 4],
@@ -37,7 +38,7 @@ pub struct Weighed {
 }
 
 // What each lane adds to the two ends.
-#[derive(Drop)]
+#[derive(Clone, Copy)]
 pub struct Lanes {
     pub first: [f32; 4],
     pub second: [f32; 4],

@@ -1,11 +1,13 @@
 // What the Rust does by methods of f32 and of glam's Vec4, one lane at a time.
+#![tactic(auto)]
+
 ghost use Rattle.std.specs.Prelude.{◌≡◌, ◌≤◌, true, if◌then◌else◌};
 ghost use Rattle.std.specs.Float.Ieee.{le, lt, to_unsigned};
 ghost use Rattle.floats.specs.Arithmetic.{f0, f2^23, whole};
 ghost use Rattle.floats.specs.Helpers.{abs_of, min_of, max_of, lane_min, lane_max, clamp_of, entry_clamp, trunc_of, byte_of, byte_up_to7};
 
 // The Rust's (f32, f32).
-#[derive(Drop)]
+#[derive(Clone, Copy)]
 pub struct Pair(pub f32, pub f32);
 
 // a where t holds, and b elsewhere: the one branch on floats, which compiles to a select.

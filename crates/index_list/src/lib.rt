@@ -1,10 +1,12 @@
 // bc4.rs: IndexList, and how a block's eight bytes hold it.
+#![tactic(auto)]
+
 ghost use Rattle.std.specs.Prelude.{◌≡◌, ◌<◌, length};
 ghost use Rattle.index_list.specs.Indexes.{index_at, set_at, filled_to};
 ghost use Rattle.index_list.specs.Layout.{packed as packed_of, bytes_of, from_bytes};
 
 // Sixteen 3-bit indexes, pixel i at bit 3i.
-#[derive(Drop)]
+#[derive(Clone, Copy)]
 pub struct IndexList {
     pub data: u64,
 }

@@ -1,4 +1,5 @@
 // Document 01, "The program": a line for each record of 68 bytes.
+#![tactic(auto)]
 ghost use Rattle.std.specs.Prelude.{◌≡◌, ◌+◌, ◌*◌, ◌/◌, ◌≤◌, length};
 ghost use Rattle.lines.specs.Answers.{answer_of, line_of, lines_to, text_of, AtStart};
 ghost use Rattle.lines.specs.Output.{Holds};
@@ -39,8 +40,8 @@ fn lines(input: &[u8], out: &mut [u8]) -> usize
         let l = line(&input[i * 68..i * 68 + 68]);
         let n = l.length;
         let text = l.bytes;
-        let rest = &mut out[at..];
-        at += bytes::copy(&text[..n], rest);
+        out[at..at + n].copy_from_slice(&text[..n]);
+        at += n;
     }
     at
 }
@@ -55,5 +56,6 @@ pub fn text(input: &[u8], out: &mut [u8]) -> usize
     if input.len() % 68 == 0 {
         return at;
     }
-    at + bytes::copy(b"short\n", &mut out[at..])
+    out[at..at + 6].copy_from_slice(b"short\n");
+    at + 6
 }

@@ -5,14 +5,14 @@ ghost use Rattle.lines.specs.Output.{digit, hex_line, refused_line, Holds};
 const DIGITS: [u8; 16] = *b"0123456789abcdef";
 
 // A line is the first `length` of the bytes.
-#[derive(Drop)]
+#[derive(Clone, Copy)]
 pub struct Line {
     pub bytes: [u8; 17],
     pub length: usize,
 }
 
 // The two digits of a byte, the higher first.
-#[derive(Drop)]
+#[derive(Clone, Copy)]
 struct TwoDigits(u8, u8);
 
 fn digits(byte: u8) -> TwoDigits

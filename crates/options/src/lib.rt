@@ -1,12 +1,14 @@
 // Bc4Options and Bc4Quantization.
-#[derive(Drop)]
+#![tactic(auto)]
+
+#[derive(Clone, Copy)]
 pub enum Quantization {
     Round,
     MediumQuality,
     HighQuality,
 }
 
-#[derive(Drop)]
+#[derive(Clone, Copy)]
 pub struct Options {
     pub dither: bool,
     pub snorm: bool,

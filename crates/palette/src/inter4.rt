@@ -6,13 +6,13 @@ ghost use Rattle.palette.specs.Closest.{default_of, nearer_of, nearest_to, close
 use crate::{Closest, Indexed};
 use end_points::EndPoints;
 
-#[derive(Drop)]
+#[derive(Clone, Copy)]
 pub struct Inter4Palette {
     pub colors: [f32; 8],
 }
 
 // The nearest so far.
-#[derive(Drop)]
+#[derive(Clone, Copy)]
 pub struct Nearest {
     pub index: u32,
     pub error: f32,

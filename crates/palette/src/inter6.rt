@@ -37,20 +37,20 @@ fn index_of(k: u32) -> u32
 }
 
 // The index of a pixel, and its error with the sign: it is only squared.
-#[derive(Drop)]
+#[derive(Clone, Copy)]
 pub struct Match {
     pub index: u32,
     pub off: f32,
 }
 
 // Four indexes, and the sum of four squares.
-#[derive(Drop)]
+#[derive(Clone, Copy)]
 pub struct Row {
     pub code: u32,
     pub sum: f32,
 }
 
-#[derive(Drop)]
+#[derive(Clone, Copy)]
 pub struct Inter6Palette {
     pub c0: f32,
     pub c1: f32,

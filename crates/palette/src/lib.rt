@@ -1,4 +1,5 @@
 // bc4.rs: the two palettes.
+#![tactic(auto)]
 ghost use Rattle.std.specs.Prelude.{◌≡◌, ℕ, ◌+◌, ◌*◌, ◌<◌, get_or};
 ghost use Rattle.index_list.specs.Indexes.{filled_to};
 ghost use Rattle.block.specs.Samples.{pixel_at, per_pixel};
@@ -15,14 +16,14 @@ use index_list::IndexList;
 use inter6::Inter6Palette;
 
 // What the Rust's generic parameter `P: Palette` chooses.
-#[derive(Drop)]
+#[derive(Clone, Copy)]
 pub enum Kind {
     Six,
     Four,
 }
 
 // The index of the value that is closest, that value, and how far it is.
-#[derive(Drop)]
+#[derive(Clone, Copy)]
 pub struct Closest {
     pub index: u8,
     pub value: f32,
@@ -30,7 +31,7 @@ pub struct Closest {
 }
 
 // The indexes of a block and its total error.
-#[derive(Drop)]
+#[derive(Clone, Copy)]
 pub struct Indexed {
     pub indexes: IndexList,
     pub error: f32,
@@ -57,7 +58,7 @@ fn of_rows(r0: u32, r1: u32, r2: u32, r3: u32) -> IndexList
 }
 
 // The indexes of row i.
-#[derive(Drop)]
+#[derive(Clone, Copy)]
 struct RowIndexes {
     x: u32,
     y: u32,
@@ -98,7 +99,7 @@ fn indexes(k: &[u32; 16]) -> IndexList
 }
 
 // The palette that two ends make, by its kind: what implements the Rust's `Palette`. An enum holds no array, so the ends stand for four values.
-#[derive(Drop)]
+#[derive(Clone, Copy)]
 pub enum Palette {
     Inter6(Inter6Palette),
     Inter4(f32, f32),

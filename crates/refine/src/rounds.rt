@@ -6,7 +6,7 @@ use floats::Pair;
 use palette::Kind;
 
 // A pair with its palette error.
-#[derive(Drop)]
+#[derive(Clone, Copy)]
 pub struct Held {
     pub min: f32,
     pub max: f32,

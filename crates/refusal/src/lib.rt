@@ -1,4 +1,5 @@
 // Document 01, "Calls and numbers", and document 02: every refusal, its number, what it brings with it, and the checks of each call in their order.
+#![tactic(auto)]
 ghost use Rattle.std.specs.Prelude.{◌≡◌, length};
 ghost use Rattle.refusal.specs.Refusals.{first_of, or_malformed, encode_checks, decode_checks, error_checks, resend_checks, tile_checks, view_checks};
 
@@ -11,7 +12,7 @@ use options::Options;
 pub use shape::{size, tile_bytes, view_of};
 pub use told::{detail, number};
 
-#[derive(Drop)]
+#[derive(Clone, Copy)]
 pub enum Refusal {
     // A side of the tile is 0.
     SideIsZero(Side),
@@ -48,14 +49,14 @@ pub enum Refusal {
 }
 
 // The channels of a block or a tile that has two.
-#[derive(Drop)]
+#[derive(Clone, Copy)]
 pub enum Channel {
     First,
     Second,
 }
 
 // What the samples of a channel are refused for.
-#[derive(Drop)]
+#[derive(Clone, Copy)]
 pub enum Fault {
     // Number 2.
     Count(Channel),
@@ -66,14 +67,14 @@ pub enum Fault {
 }
 
 // The sides of a tile.
-#[derive(Drop)]
+#[derive(Clone, Copy)]
 pub enum Side {
     Width,
     Height,
 }
 
 // Where a sample of a tile stands.
-#[derive(Drop)]
+#[derive(Clone, Copy)]
 pub struct Spot {
     pub index: usize,
     pub row: usize,
@@ -81,7 +82,7 @@ pub struct Spot {
 }
 
 // The fields of a DDS file that a refusal can name, but for its sides.
-#[derive(Drop)]
+#[derive(Clone, Copy)]
 pub enum Field {
     // The first 128 bytes: the file is shorter.
     Header,
@@ -97,7 +98,7 @@ pub enum Field {
     ArraySize,
 }
 
-#[derive(Drop)]
+#[derive(Clone, Copy)]
 pub enum Checked {
     Passed,
     Refused(Refusal),

@@ -1,5 +1,6 @@
 // Compares the encoder with what the Rust text answered. Standard input is a list of entries of 76 bytes: a record of 68 bytes, as the
 // program `records` reads it, and the eight bytes that the Rust gave for it.
+#![tactic(auto)]
 ghost use Rattle.std.specs.Prelude.{◌≡◌, ◌+◌, ◌*◌, ◌≤◌, ◌<◌, length};
 ghost use Rattle.replay.specs.Entry.{differs_of, tallied};
 
@@ -7,7 +8,7 @@ use bc4::Encoded;
 use libc::{STDIN_FILENO, STDOUT_FILENO};
 
 // How many entries, and how many of them differ.
-#[derive(Drop)]
+#[derive(Clone, Copy)]
 struct Tally {
     records: u64,
     differ: u64,

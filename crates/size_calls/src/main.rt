@@ -1,5 +1,6 @@
 // Hands sizes to every call that takes one, and prints a line for each size: what each call says of it. What a call refuses later is wrong as well, so that
 // of a good size the next number is told. The file stdout beside src/ was worked out by compare/size_calls.py, not by this program.
+#![tactic(auto)]
 use bc4::{Checked, Tiled};
 use cases::{given, show};
 use dds::Written;

@@ -1,5 +1,6 @@
 // Document 02, 5/12: the receiving side. A message is a block's place, an edition and eight bytes; a station holds a tile and, beside it, a record of the
 // editions that stand in it: one entry for each block, 0 where the place is empty, else the edition and one more. Both are the caller's memory.
+#![tactic(auto)]
 ghost use Rattle.std.specs.Prelude.{◌≡◌, ◌+◌, ◌*◌, ◌<◌, ◌≤◌, length, set};
 ghost use Rattle.place.specs.Place.{longest_side, bc4_size};
 ghost use Rattle.station.specs.Editions.{message, holding, entry_of};
@@ -11,7 +12,7 @@ mod shape;
 use refusal::{Checked, Refusal};
 
 // What became of a message.
-#[derive(Drop)]
+#[derive(Clone, Copy)]
 pub enum Received {
     // Its place was empty, and holds it now.
     Taken,
@@ -73,7 +74,7 @@ fn put(tile: &mut [u8], editions: &mut [u32], at: usize, entry: usize, edition: 
     ensures tile { tile.new ≡ bytes_put tile.old at block.now }
     ensures editions { editions.new ≡ set editions.old entry (entry_of edition) }
 {
-    bytes::copy(block, &mut tile[at..at + place::BC4_SIZE]);
+    tile[at..at + place::BC4_SIZE].copy_from_slice(block);
     editions[entry] = editions::entry_of(edition);
 }
 

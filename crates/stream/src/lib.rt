@@ -1,11 +1,12 @@
 // Document 01, "The program": records of 68 bytes from standard input, a line for each to standard output. What is written for a buffer is
 // `lines::text`; no contract of the system's calls says what is read or written, so nothing but reading and writing is left here.
+#![tactic(auto)]
 ghost use Rattle.std.specs.Prelude.{◌≡◌, cond, ◌*◌, ◌/◌, ◌≤◌, length};
 
 use libc::{STDERR_FILENO, STDIN_FILENO, STDOUT_FILENO};
 
 // How many bytes were read, and whether a read failed before the buffer was full or the input ended.
-#[derive(Drop)]
+#[derive(Clone, Copy)]
 pub struct Filled {
     pub count: usize,
     pub failed: bool,
