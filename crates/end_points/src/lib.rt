@@ -1,5 +1,6 @@
 // bc4.rs: EndPoints.
 #![tactic(auto)]
+
 ghost use Rattle.std.specs.Prelude.{◌≡◌, true, false};
 ghost use Rattle.std.specs.Float.Ieee.{le};
 ghost use Rattle.floats.specs.Arithmetic.{f0, f1};

@@ -1,5 +1,6 @@
 // Document 01, "Calls and numbers": the sizes that a tile may have, and where a block's bytes and samples are in it.
 #![tactic(auto)]
+
 ghost use Rattle.std.specs.Prelude.{◌≡◌, ◌+◌, ◌*◌, ◌<◌, ◌≤◌, length};
 ghost use Rattle.place.specs.Place.{longest_side, bad_side, bad_size, along, encoded_length, block_at, block_of};
 

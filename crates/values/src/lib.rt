@@ -1,5 +1,6 @@
 // formats.rs: the one-byte value functions, and what both formats share.
 #![tactic(auto)]
+
 ghost use Rattle.std.specs.Prelude.{◌≡◌, ◌≤◌};
 ghost use Rattle.values.specs.Values.{steps as steps_of, level_byte, level_value, value_of, byte_below};
 

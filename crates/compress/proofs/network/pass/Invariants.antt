@@ -1,0 +1,12 @@
+use mathlib.Core.Logic.{⊎_elim}
+use mathlib.Core.Path.{◌≡◌, refl, sym, ◌∙◌}
+use Prim.Native.Nat.{◌-◌, ◌≤◌}
+use native.Mathlib.Nat.{sub-zero}
+use native.Mathlib.Omega.{arith}
+use borrow.Author.Tests.{eq-eqb, ne_eqb}
+use Rattle.compress.specs.Network.{smaller_first, run, steps_from, pass}
+use Rattle.compress.proofs.Steps.{pass_more}
+use Rattle.compress.proofs.network.pass.Given as goal
+
+abbrev pub invariant-loop-i : goal.invariant-loop-i
+invariant-loop-i l = (l.i ≤ l.i-end) × (run smaller_first (steps_from l.p l.r l.d l.i (l.i-end - l.i)) l.s ≡ run smaller_first (pass l.p l.r l.d) l.initial.s)

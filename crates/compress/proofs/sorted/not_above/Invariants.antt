@@ -1,0 +1,9 @@
+use mathlib.Core.Path.{◌≡◌, refl, sym}
+use Prim.Native.Nat.{◌≤◌, ◌-◌}
+use native.Mathlib.Omega.{arith}
+use Rattle.compress.specs.Sorted.{count_to}
+use Rattle.compress.proofs.Places.{count_more}
+use Rattle.compress.proofs.sorted.not_above.Given as goal
+
+abbrev pub invariant-loop-i : goal.invariant-loop-i
+invariant-loop-i l = (l.i ≤ 16) × (l.n ≤ l.i) × (l.n ≡ count_to l.b l.x l.i)

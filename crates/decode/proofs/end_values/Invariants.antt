@@ -1,0 +1,14 @@
+use mathlib.Core.Path.{refl}
+use mathlib.Core.List.{[], ◌∷◌}
+use Prim.Native.Nat.{ℕ, ◌-◌}
+use native.Mathlib.Omega.{arith}
+use lib.ListN.{get_or}
+use lib.Ieee.{Float, nan}
+use mathlib.Core.Bool.{Bool}
+use Rattle.values.specs.Values.{level_value}
+use Rattle.block.specs.Samples.{tabulate}
+use Rattle.block.proofs.Fill.{Filled, fill_start, fill_step, fill_end}
+use Rattle.decode.proofs.end_values.Given as goal
+
+abbrev pub invariant-loop-i : goal.invariant-loop-i
+invariant-loop-i l = Filled nan (valueOfTwo l.l0 l.l1 l.snorm) 2 l.floats l.i

@@ -1,0 +1,22 @@
+-- what each of the first j lanes has there
+use mathlib.Core.Path.{◌≡◌, refl}
+use mathlib.Core.List.{List}
+use Prim.Native.Nat.{ℕ, ◌-◌}
+use native.Mathlib.Numerals.{add-one}
+use native.Mathlib.Omega.{arith}
+use lib.Ieee.{Float, nan}
+use Rattle.block.proofs.Fill.{Filled, fill_start, fill_step, fill_end}
+use Rattle.palette.specs.declared.inter6.Inter6Palette.{Inter6Palette}
+use Rattle.fit.specs.declared.Lane.{Lane}
+use Rattle.fit.specs.Lanes.{lane_at, above_to, weighed}
+use Rattle.fit.proofs.weigh.Given as goal
+
+abbrev pub invariant-loop-j : goal.invariant-loop-j
+invariant-loop-j l = Has l.p l.b (λ l. l.w0) l.w0 l.j
+    × Has l.p l.b (λ l. l.w1) l.w1 l.j
+    × Has l.p l.b (λ l. l.w2) l.w2 l.j
+    × Has l.p l.b (λ l. l.w3) l.w3 l.j
+    × Has l.p l.b (λ l. l.ww) l.ww l.j
+    × Has l.p l.b (λ l. l.wv) l.wv l.j
+    × Has l.p l.b (λ l. l.vv) l.vv l.j
+    × (l.above ≡ above_to l.p l.b l.j)

@@ -1,0 +1,10 @@
+use mathlib.Core.Path.{refl}
+use Prim.Native.Nat.{◌-◌}
+use native.Mathlib.Omega.{arith}
+use lib.Ieee.{nan}
+use Rattle.block.proofs.Fill.{Filled, fill_start, fill_step, fill_end}
+use Rattle.compress.specs.Sorted.{placed}
+use Rattle.inner_calls.proofs.inner_places.Given as goal
+
+abbrev pub invariant-loop-i : goal.invariant-loop-i
+invariant-loop-i l = Filled nan (placed l.b) 16 l.places l.i

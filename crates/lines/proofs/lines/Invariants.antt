@@ -1,0 +1,12 @@
+-- `lines::lines` meets its contract: after i turns the lines of the first i records stand at the start of `out`.
+use mathlib.Core.Path.{◌≡◌, refl, sym, ◌∙◌}
+use Prim.Native.Nat.{◌/◌, ◌+◌, ◌*◌, ◌-◌, ◌≤◌}
+use native.Mathlib.Numerals.{add-one}
+use native.Mathlib.Omega.{arith}
+use lib.ListN.{length, take, length-take, length-drop}
+use Rattle.lines.specs.Answers.{answer_of, line_of, record_at, lines_to, AtStart}
+use Rattle.lines.proofs.Laws.{copied, written_more, line_bytes}
+use Rattle.lines.proofs.lines.Given as goal
+
+abbrev pub invariant-loop-i : goal.invariant-loop-i
+invariant-loop-i l = (l.i ≤ length l.input / 68) × (l.at ≤ l.i * 17) × (length l.out ≡ length l.initial.out) × AtStart (lines_to l.input l.i) l.initial.out l.out l.at

@@ -1,0 +1,16 @@
+-- the index and the error of pixel i
+use mathlib.Core.Path.{refl, ap, ◌∙◌}
+use mathlib.Core.List.{List}
+use Prim.Native.Nat.{ℕ, ◌-◌}
+use native.Mathlib.Omega.{arith}
+use lib.Ieee.{Float, nan}
+use Rattle.index_list.proofs.Laws.{filled_same}
+use Rattle.block.specs.Samples.{pixel_at}
+use Rattle.block.specs.Orders.{sum_of_squares}
+use Rattle.block.proofs.Fill.{Filled, fill_start, fill_step, fill_end}
+use Rattle.palette.specs.Closest.{nearest_to, closest4}
+use Rattle.palette.proofs.ClosestLaws.{nearest6_lt, indexed_is}
+use Rattle.palette.proofs.inter4.Inter4Palette.block_closest.Given as goal
+
+abbrev pub invariant-loop-i : goal.invariant-loop-i
+invariant-loop-i l = Filled 0 (index l.self.colors l.b) 16 l.chosen l.i × Filled nan (off l.self.colors l.b) 16 l.errors l.i

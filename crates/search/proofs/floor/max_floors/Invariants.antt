@@ -1,0 +1,10 @@
+use mathlib.Core.Path.{refl}
+use Prim.Native.Nat.{◌-◌}
+use native.Mathlib.Omega.{arith}
+use lib.Ieee.{nan}
+use Rattle.block.proofs.Fill.{Filled, fill_start, fill_step, fill_end}
+use Rattle.search.specs.Floor.{max_floor}
+use Rattle.search.proofs.floor.max_floors.Given as goal
+
+abbrev pub invariant-loop-max : goal.invariant-loop-max
+invariant-loop-max l = Filled nan (max_floor l.b) 256 l.floors l.max
