@@ -1,5 +1,6 @@
 // bc4.rs: the two palettes.
 #![tactic(auto)]
+
 ghost use Rattle.std.specs.Prelude.{◌≡◌, ℕ, ◌+◌, ◌*◌, ◌<◌, get_or};
 ghost use Rattle.index_list.specs.Indexes.{filled_to};
 ghost use Rattle.block.specs.Samples.{pixel_at, per_pixel};

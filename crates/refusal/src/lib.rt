@@ -1,5 +1,6 @@
 // Document 01, "Calls and numbers", and document 02: every refusal, its number, what it brings with it, and the checks of each call in their order.
 #![tactic(auto)]
+
 ghost use Rattle.std.specs.Prelude.{◌≡◌, length};
 ghost use Rattle.refusal.specs.Refusals.{first_of, or_malformed, encode_checks, decode_checks, error_checks, resend_checks, tile_checks, view_checks};
 
