@@ -1,11 +1,13 @@
 // Compares the encoder with what the Rust text answered. Standard input is a list of entries of 76 bytes: a record of 68 bytes, as the
 // program `records` reads it, and the eight bytes that the Rust gave for it.
 #![tactic(auto)]
-ghost use Rattle.std.specs.Prelude.{◌≡◌, ◌+◌, ◌*◌, ◌≤◌, ◌<◌, length};
+
+ghost use Rattle.std.specs.Prelude.{◌≡◌, ◌+◌, ◌*◌, ◌≤◌, ◌<◌, length, IfOk};
 ghost use Rattle.replay.specs.Entry.{differs_of, tallied};
 
 use bc4::Encoded;
-use libc::{STDIN_FILENO, STDOUT_FILENO};
+use std::io;
+use std::io::{Error, Write};
 
 // How many entries, and how many of them differ.
 #[derive(Clone, Copy)]
@@ -34,49 +36,50 @@ fn differs(entry: &[u8]) -> bool
     }
 }
 
-fn report(record: u64) {
-    io::write_all(STDOUT_FILENO, b"record ");
-    io::print_decimal(STDOUT_FILENO, record);
-    io::write_all(STDOUT_FILENO, b" differs\n");
+fn report<W: Write>(out: &mut W, record: u64) -> io::Result<()> {
+    writeln!(out, "record {record} differs")
 }
 
-// Counts on over the entries of a buffer, and names those that differ.
-fn entries(input: &[u8], records: u64, differ: u64) -> Tally
+// Counts on over the entries of a buffer, and names those that differ. An error is a write that failed.
+fn entries<W: Write>(input: &[u8], records: u64, differ: u64, out: &mut W) -> io::Result<Tally>
     requires { (records + length input.now < 18446744073709551616) × (differ ≤ records) }
-    ensures { result ≡ tallied records differ input.now }
+    ensures { IfOk result (λ t. t ≡ tallied records differ input.now) }
 {
     let mut d = differ;
     for i in 0..input.len() / 76 {
         if differs(&input[i * 76..i * 76 + 76]) {
-            report(records + (i as u64));
+            report(out, records + (i as u64))?;
             d += 1;
         }
     }
-    Tally {
+    Ok(Tally {
         records: records + ((input.len() / 76) as u64),
         differ: d,
-    }
+    })
 }
 
 // A buffer is 860 entries. The count of turns shows that the program ends and that the sums fit: no input has so many.
-fn main() {
+fn main(rt: HostRuntime) -> io::Result<()> {
+    let mut reader = rt.stdin();
+    let mut out = rt.stdout();
     let mut input = [0u8; 65360];
     let mut turns: u64 = 1_000_000_000_000;
     let mut records: u64 = 0;
     let mut differ: u64 = 0;
     let mut n = 65360;
     while turns > 0 && n == 65360 {
-        n = io::read_full(STDIN_FILENO, &mut input);
-        let t = entries(&input[..n], records, differ);
+        let f = stream::fill(&mut reader, &mut input);
+        if f.failed {
+            return Err(Error::other("standard input cannot be read"));
+        }
+        n = f.count;
+        let t = entries(&input[..n], records, differ, &mut out)?;
         records = t.records;
         differ = t.differ;
         turns -= 1;
     }
     if n % 76 != 0 {
-        io::write_all(STDOUT_FILENO, b"short\n");
+        out.write_all(b"short\n")?;
     }
-    io::print_decimal(STDOUT_FILENO, records);
-    io::write_all(STDOUT_FILENO, b" records, ");
-    io::print_decimal(STDOUT_FILENO, differ);
-    io::write_all(STDOUT_FILENO, b" differ\n");
+    writeln!(out, "{records} records, {differ} differ")
 }

@@ -1,9 +1,10 @@
 // Document 01, "The program": records of 68 bytes from standard input, a line for each to standard output. What is written for a buffer is
 // `lines::text`; no contract of the system's calls says what is read or written, so nothing but reading and writing is left here.
 #![tactic(auto)]
+
 ghost use Rattle.std.specs.Prelude.{◌≡◌, cond, ◌*◌, ◌/◌, ◌≤◌, length};
 
-use libc::{STDERR_FILENO, STDIN_FILENO, STDOUT_FILENO};
+use std::io::{Read, Write};
 
 // How many bytes were read, and whether a read failed before the buffer was full or the input ended.
 #[derive(Clone, Copy)]
@@ -12,24 +13,22 @@ pub struct Filled {
     pub failed: bool,
 }
 
-// The kit's `io::read_full` does not tell a read that fails from the end of the input.
-fn fill(buf: &mut [u8]) -> Filled
+// std's `read_exact` does not tell how much was read where the input ends or a read fails. A read that a signal interrupts has failed.
+pub fn fill<R: Read>(input: &mut R, buf: &mut [u8]) -> Filled
     ensures { (result.count ≤ length buf.old) × (length buf.new ≡ length buf.old) }
 {
     let mut done = 0;
     while done < buf.len() {
-        let got = libc::read(STDIN_FILENO, &mut buf[done..]);
-        if got < 0 {
-            return Filled {
-                count: done,
-                failed: true,
-            };
+        match input.read(&mut buf[done..]) {
+            Ok(0) => break,
+            Ok(n) => done += n,
+            Err(_) => {
+                return Filled {
+                    count: done,
+                    failed: true,
+                };
+            }
         }
-        let n = io::count(got, &buf[done..]);
-        if n == 0 {
-            break;
-        }
-        done += n;
     }
     Filled {
         count: done,
@@ -48,30 +47,30 @@ fn answered(f: Filled) -> usize
 }
 
 // A line on standard error, and the exit status that goes with it.
-fn failed(message: &[u8]) -> u32
+fn failed(rt: &impl Eprint, message: &str) -> u8
     ensures { result ≡ 1 }
 {
-    io::write_all(STDERR_FILENO, message);
+    let _ = rt.eprintln(message);
     1
 }
 
 // The exit status: 0 where all input was read and all lines were written. A buffer is 960 records. The count of turns only shows that the program
 // ends: no input has so many.
-pub fn run() -> u32
+pub fn run<R: Read, W: Write>(input: &mut R, output: &mut W, rt: &impl Eprint) -> u8
     ensures { result ≤ 1 }
 {
-    let mut input = [0u8; 65280];
+    let mut records = [0u8; 65280];
     let mut out = [0u8; 16326];
     let mut turns = u64::MAX;
     while turns > 0 {
-        let f = fill(&mut input);
+        let f = fill(input, &mut records);
         let n = answered(f);
-        let used = lines::text(&input[..n], &mut out);
-        if !io::write_all(STDOUT_FILENO, &out[..used]) {
-            return failed(b"records: standard output cannot be written\n");
+        let used = lines::text(&records[..n], &mut out);
+        if output.write_all(&out[..used]).is_err() {
+            return failed(rt, "records: standard output cannot be written");
         }
         if f.failed {
-            return failed(b"records: standard input cannot be read\n");
+            return failed(rt, "records: standard input cannot be read");
         }
         if n < 65280 {
             return 0;
@@ -79,12 +78,4 @@ pub fn run() -> u32
         turns -= 1;
     }
     0
-}
-
-// For program/records.c, which gives the process this status: a `main` of Rattle has none.
-#[unsafe(no_mangle)]
-pub extern "C" fn bc4_records() -> u32
-    ensures { result ≤ 1 }
-{
-    run()
 }
