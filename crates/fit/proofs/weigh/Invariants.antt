@@ -1,4 +1,3 @@
--- what each of the first j lanes has there
 use mathlib.Core.Path.{◌≡◌, refl}
 use mathlib.Core.List.{List}
 use Prim.Native.Nat.{ℕ, ◌-◌}
@@ -10,6 +9,10 @@ use Rattle.palette.specs.declared.inter6.Inter6Palette.{Inter6Palette}
 use Rattle.fit.specs.declared.Lane.{Lane}
 use Rattle.fit.specs.Lanes.{lane_at, above_to, weighed}
 use Rattle.fit.proofs.weigh.Given as goal
+
+-- what each of the first j lanes has there
+abbrev pub Has : Inter6Palette → List Float → (Lane → Float) → List Float → ℕ → Type 0
+Has p b part out j = Filled nan (λ k. part (lane_at p b k)) 4 out j
 
 abbrev pub invariant-loop-j : goal.invariant-loop-j
 invariant-loop-j l = Has l.p l.b (λ l. l.w0) l.w0 l.j

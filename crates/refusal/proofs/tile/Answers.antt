@@ -10,34 +10,26 @@ use Rattle.refusal.proofs.Sizes.{size_passed}
 use Rattle.std.proofs.Common.{rules}
 use Rattle.refusal.proofs.tile.Goals as goal
 
--- TODO type of c
-sized : (t : tie.After-enum-told) → let a = t.before.before.before.before.args in first_of (size_checks a.width a.height) ≡ Passed
-sized t = sym t.before.before.size.ensures ∙ t.enum_told.given.1
-
--- TODO type of c
-good : (t : tie.After-enum-told) → let a = t.before.before.before.before.args in bad_size a.width a.height ≡ false
-good t = size_passed _ _ (sized t)
-
 pub overflow_mul-area : goal.overflow_mul-area
-overflow_mul-area c = let small = size_small _ _ (good c) in search rules
+overflow_mul-area c = let small = size_small _ _ (size_passed _ _ (sym c.size-checked.ensures ∙ c.in-Passed.is)) in search rules
 
 pub returns-then-samples-area : goal.returns-then-samples-area
 unfolding first_of
-returns-then-samples-area c = rw (passed_before (size_checks _ _) _ (sized c), ne_eqb _ _ c.if-samples-area.true)
+returns-then-samples-area c = rw (passed_before (size_checks _ _) _ (sym c.size-checked.ensures ∙ c.in-Passed.is), ne_eqb _ _ c.if-samples-area.true)
 
 pub encoded_length-requires : goal.encoded_length-requires
-encoded_length-requires c = let small = size_small _ _ (good c) in search rules
+encoded_length-requires c = let small = size_small _ _ (size_passed _ _ (sym c.size-checked.ensures ∙ c.in-Passed.is)) in search rules
 
 pub returns-then-room-encoded_length : goal.returns-then-room-encoded_length
 unfolding first_of
-returns-then-room-encoded_length c = rw (passed_before (size_checks _ _) _ (sized c), eq-eqb _ _ c.if-samples-area.false, ← c.encoded_length.ensures, lt-ltb _ _ c.if-room-encoded_length.true)
+returns-then-room-encoded_length c = rw (passed_before (size_checks _ _) _ (sym c.size-checked.ensures ∙ c.in-Passed.is), eq-eqb _ _ c.if-samples-area.false, ← c.encoded_length.ensures, lt-ltb _ _ c.if-room-encoded_length.true)
 
 pub no_tile_nan-requires : goal.no_tile_nan-requires
-no_tile_nan-requires c = (size_good _ _ (good c)).0.some
+no_tile_nan-requires c = (size_good _ _ (size_passed _ _ (sym c.size-checked.ensures ∙ c.in-Passed.is))).0.some
 
 pub returns-in-Refused : goal.returns-in-Refused
 returns-in-Refused c = sym (refused_before (size_checks _ _) _ (sym c.size-checked.ensures ∙ c.in-Refused.is))
 
 pub returns-else-room-encoded_length : goal.returns-else-room-encoded_length
 unfolding first_of
-returns-else-room-encoded_length c = rw (passed_before (size_checks _ _) _ (sized c), eq-eqb _ _ c.if-samples-area.false, ← c.encoded_length.ensures, le-ltb _ _ c.if-room-encoded_length.false) c.no_tile_nan.ensures
+returns-else-room-encoded_length c = rw (passed_before (size_checks _ _) _ (sym c.size-checked.ensures ∙ c.in-Passed.is), eq-eqb _ _ c.if-samples-area.false, ← c.encoded_length.ensures, le-ltb _ _ c.if-room-encoded_length.false) c.no_tile_nan.ensures

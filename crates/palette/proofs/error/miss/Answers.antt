@@ -4,4 +4,4 @@ use Rattle.palette.proofs.error.miss.Goals as goal
 
 pub returns : goal.returns
 unfolding least_square_to
-returns c = cc (miss_is c.args.t1 c.args.pixel)
+returns c = cc (miss_is c.args.eight c.args.pixel)

@@ -7,20 +7,16 @@ use Rattle.refusal.proofs.Firsts.{refused_before, passed_before}
 use Rattle.refusal.proofs.Sizes.{size_passed}
 use Rattle.refusal.proofs.shape.bytes_of.Goals as goal
 
--- TODO type of c
-sized : (t : tie.After-enum-told) → let a = t.before.before.before.args in first_of (size_checks a.width a.height) ≡ Passed
-sized t = sym t.before.before.size.ensures ∙ t.enum_told.given.1
-
 pub encoded_length-requires : goal.encoded_length-requires
-encoded_length-requires c = let good = size_passed _ _ (sized c) in (size_small _ _ good, (bytes_small _ _ good c.requires).0)
+encoded_length-requires c = let good = size_passed _ _ (sym c.size-checked.ensures ∙ c.in-Passed.is) in (size_small _ _ good, (bytes_small _ _ good c.requires).0)
 
 pub returns-then-long-encoded_length : goal.returns-then-long-encoded_length
 unfolding first_of
-returns-then-long-encoded_length c = rw (passed_before (size_checks _ _) _ (sized c), ← c.encoded_length.ensures, ne_eqb _ _ c.if-long-encoded_length.true)
+returns-then-long-encoded_length c = rw (passed_before (size_checks _ _) _ (sym c.size-checked.ensures ∙ c.in-Passed.is), ← c.encoded_length.ensures, ne_eqb _ _ c.if-long-encoded_length.true)
 
 pub returns-in-Refused : goal.returns-in-Refused
 returns-in-Refused c = sym (refused_before (size_checks _ _) _ (sym c.size-checked.ensures ∙ c.in-Refused.is))
 
 pub returns-else-long-encoded_length : goal.returns-else-long-encoded_length
 unfolding first_of
-returns-else-long-encoded_length c = rw (passed_before (size_checks _ _) _ (sized c), ← c.encoded_length.ensures, eq-eqb _ _ c.if-long-encoded_length.false)
+returns-else-long-encoded_length c = rw (passed_before (size_checks _ _) _ (sym c.size-checked.ensures ∙ c.in-Passed.is), ← c.encoded_length.ensures, eq-eqb _ _ c.if-long-encoded_length.false)

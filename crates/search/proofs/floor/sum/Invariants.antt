@@ -9,5 +9,8 @@ use Rattle.block.proofs.Fill.{Filled, fill_start, fill_step, fill_end}
 use Rattle.search.specs.Floor.{beyond, at_least, floor_of}
 use Rattle.search.proofs.floor.sum.Given as goal
 
+abbrev pub term : List Float → Float → Float → ℕ → Float
+term b low high i = at_least (beyond low high (pixel_at b i)) (pixel_at b i)
+
 abbrev pub invariant-loop-i : goal.invariant-loop-i
 invariant-loop-i l = Filled nan (term l.b l.low l.high) 16 l.terms l.i
