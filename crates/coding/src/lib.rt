@@ -1,5 +1,6 @@
 // What both compressions end with: palette, indexes, bytes.
 #![tactic(auto)]
+
 ghost use Rattle.std.specs.Prelude.{◌≡◌, cond};
 ghost use Rattle.coding.specs.Coding.{smaller as smaller_of, laid_out, ended as ended_of};
 

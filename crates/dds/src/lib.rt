@@ -1,5 +1,6 @@
 // Document 02, 1/12: a BC4 tile as a DDS file, written into lent bytes, and read back as a part of the caller's file.
 #![tactic(auto)]
+
 ghost use Rattle.std.specs.Prelude.{◌≡◌, length};
 ghost use Rattle.refusal.specs.Refusals.{first_of};
 ghost use Rattle.dds.specs.Checks.{write_checks, read_checks};

@@ -1,5 +1,6 @@
 // Document 01, "Eight bytes" and block error. A block is one number, byte 0 lowest.
 #![tactic(auto)]
+
 ghost use Rattle.std.specs.Prelude.{◌≡◌, [], ◌∷◌};
 ghost use Rattle.values.specs.Values.{level_value};
 ghost use Rattle.block.specs.Samples.{per_pixel};

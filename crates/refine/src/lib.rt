@@ -1,5 +1,6 @@
 // bc4.rs: refine_endpoints, with its three roundings.
 #![tactic(auto)]
+
 ghost use Rattle.std.specs.Prelude.{◌≡◌};
 ghost use Rattle.refine.specs.Refining.{held_pair, better_pair, other_pair, medium as medium_of, closer_pair, high_to, quantizing as quantizing_of, first_step, least_step, refined_ends};
 

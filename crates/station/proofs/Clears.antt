@@ -27,7 +27,7 @@ module _ (width height : ℕ) where
   pub history_sized : {held : Held} (es : List Event) → Sized width height held → Sized width height (history width height held es)
   unfolding history
   history_sized [] s = s
-  history_sized (e ∷ es) s = history_sized es (after_sized e s)
+  history_sized {held = held} (e ∷ es) s = history_sized {held = after_event width height held e} es (after_sized e s)
 
   only_messages : (held : Held) (ms : List Message) → history width height held (arrivals ms) ≡ arrived width height held ms
   unfolding history arrived

@@ -1,6 +1,7 @@
 // Document 02, 5/12: the receiving side. A message is a block's place, an edition and eight bytes; a station holds a tile and, beside it, a record of the
 // editions that stand in it: one entry for each block, 0 where the place is empty, else the edition and one more. Both are the caller's memory.
 #![tactic(auto)]
+
 ghost use Rattle.std.specs.Prelude.{◌≡◌, ◌+◌, ◌*◌, ◌<◌, ◌≤◌, length, set};
 ghost use Rattle.place.specs.Place.{longest_side, bc4_size};
 ghost use Rattle.station.specs.Editions.{message, holding, entry_of};

@@ -1,0 +1,15 @@
+use mathlib.Core.Path.{refl, ◌∙◌}
+use mathlib.Core.Bool.{true, false}
+use Rattle.decode.proofs.Laws.{picked_decoded}
+use Rattle.decode.proofs.decode_into.Goals as goal
+
+pub returns-then-snorm : goal.returns-then-snorm
+returns-then-snorm c =
+    rw c.if-snorm.true
+    (c.look_up.ensures
+    ∙ picked_decoded true c.args.block _ _ _ _ _ c.norm.ensures c.norm-then-snorm.ensures c.end_values-e.ensures c.is_six.ensures c.eight_values.ensures)
+
+pub returns-else-snorm : goal.returns-else-snorm
+returns-else-snorm c =
+    rw c.if-snorm.false
+    (c.look_up-else-snorm.ensures ∙ picked_decoded false c.args.block _ _ _ _ _ refl refl c.end_values-e-else-snorm.ensures c.is_six-else-snorm.ensures c.eight_values-else-snorm.ensures)

@@ -1,0 +1,6 @@
+use Rattle.refine.specs.Rounds.{held}
+use Rattle.refine.proofs.rounds.hold.Goals as goal
+
+pub returns : goal.returns
+unfolding held
+returns c = rw c.palette_error.ensures
