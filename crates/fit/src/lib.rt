@@ -1,6 +1,7 @@
 // The two fits of compress_inter6_impl, each in one pass down the lanes: weights and sums of a lane together are work enough for a turn that the
 // compiler makes one turn of four lanes.
 #![tactic(auto)]
+
 ghost use Rattle.std.specs.Prelude.{◌≡◌, ◌<◌};
 ghost use Rattle.floats.specs.Arithmetic.{◌⊕◌, ◌⊗◌};
 ghost use Rattle.fit.specs.Fit.{fitted as fitted_of};

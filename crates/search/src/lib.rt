@@ -1,5 +1,6 @@
 // reference_brute_force. Pairs that cannot be below what is held are passed over, by floors of their errors: the answer is that of all pairs tried.
 #![tactic(auto)]
+
 ghost use Rattle.std.specs.Prelude.{◌≡◌, ◌⊎◌, true, false, ◌<◌, ◌≤◌, ◌-◌};
 ghost use Rattle.std.specs.Float.{inf};
 ghost use Rattle.std.specs.Float.Ieee.{lt};

@@ -17,4 +17,4 @@ pub slice_bounds-result-count-in-Passed : goal.slice_bounds-result-count-in-Pass
 slice_bounds-result-count-in-Passed c = (rw c.body_at-start.ensures (body_within c.args.file.now (read_whole c.args.file.now (sym c.read_refusal-checked.ensures ∙ c.in-Passed.is))))
 
 pub slice_bounds-result-start-in-Passed : goal.slice_bounds-result-start-in-Passed
-slice_bounds-result-start-in-Passed c = let h = (rw c.body_at-start.ensures (body_within c.args.file.now (read_whole c.args.file.now (sym c.read_refusal-checked.ensures ∙ c.in-Passed.is)))) in search rules
+slice_bounds-result-start-in-Passed c = let h : c.body_at-start.result ≤ length c.args.file.now = (rw c.body_at-start.ensures (body_within c.args.file.now (read_whole c.args.file.now (sym c.read_refusal-checked.ensures ∙ c.in-Passed.is)))) in search rules

@@ -1,5 +1,6 @@
 -- `dds::write` meets its contract: the header, and then the tile after it.
 use mathlib.Core.Path.{refl, sym, ◌∙◌}
+use Prim.Native.Nat.{◌+◌, ◌≤◌}
 use native.Mathlib.Omega.{arith}
 use lib.ListN.{length, length-take, length-drop}
 use Rattle.place.proofs.Joined.{all_copied}
@@ -13,26 +14,19 @@ pub put-requires : goal.put-requires
 put-requires c = let r = (write_room _ _ _ _ (sym c.write_refusal-checked.ensures ∙ c.in-Passed.is)) in (r.good, search rules)
 
 pub slice_bounds-copy_from_slice-end : goal.slice_bounds-copy_from_slice-end
-slice_bounds-copy_from_slice-end c = ?
+slice_bounds-copy_from_slice-end c =
+    let r = write_room _ _ _ _ (sym c.write_refusal-checked.ensures ∙ c.in-Passed.is) in
+    let room : header_length + length c.args.tile.now ≤ length c.put.new.out = omega (arith, r.tile, r.out) in
+    search rules
 
--- of the whole returns-in-Passed
 pub returns-in-Passed-clause-answer : goal.returns-in-Passed-clause-answer
 returns-in-Passed-clause-answer c =
-    let a = c.args in
-    let r = (write_room _ _ _ _ (sym c.write_refusal-checked.ensures ∙ c.in-Passed.is)) in
-    let header = header_of a.width a.height a.snorm in
-    let copied = c.copy.ensures.1 {-?-} ∙ all_copied a.tile.now _ (simp (length-take, length-drop) (omega arith)) in (
-      rw (← c.write_refusal-checked.ensures, c.in-Passed.is, r.tile),
-      rw (c.put.ensures, copied) (tile_put header a.tile.now a.out.now header_length (header_length_lem a.width a.height a.snorm)),
-    )
+    let r = write_room _ _ _ _ (sym c.write_refusal-checked.ensures ∙ c.in-Passed.is) in
+    rw (← c.write_refusal-checked.ensures, c.in-Passed.is, r.tile)
 
--- of the whole returns-in-Passed
 pub returns-in-Passed-clause-bytes : goal.returns-in-Passed-clause-bytes
 returns-in-Passed-clause-bytes c =
     let a = c.args in
-    let r = (write_room _ _ _ _ (sym c.write_refusal-checked.ensures ∙ c.in-Passed.is)) in
+    let r = write_room _ _ _ _ (sym c.write_refusal-checked.ensures ∙ c.in-Passed.is) in
     let header = header_of a.width a.height a.snorm in
-    let copied = c.copy.ensures.1 {-?-} ∙ all_copied a.tile.now _ (simp (length-take, length-drop) (omega arith)) in (
-      rw (← c.write_refusal-checked.ensures, c.in-Passed.is, r.tile),
-      rw (c.put.ensures, copied) (tile_put header a.tile.now a.out.now header_length (header_length_lem a.width a.height a.snorm)),
-    )
+    rw (c.put.ensures, c.copy_from_slice.ensures.after) (tile_put header a.tile.now a.out.now header_length (header_length_lem a.width a.height a.snorm))

@@ -4,7 +4,7 @@ use Prim.Native.Nat.{◌*◌, ◌≤◌}
 use borrow.Author.Tests.{eq-eqb, ne_eqb}
 use Rattle.place.specs.Place.{longest_side}
 use Rattle.place.proofs.Places.{size_small}
-use Rattle.refusal.specs.declared.Checked.TheVariants.{Passed}
+use Rattle.refusal.specs.declared.Checked.TheVariants.{Passed, Refused}
 use Rattle.refusal.specs.Refusals.{first_of, size_checks}
 use Rattle.refusal.proofs.Firsts.{refused_before, passed_before}
 use Rattle.refusal.proofs.Sizes.{size_passed}
@@ -24,13 +24,18 @@ overflow_add-body_at c =
 
 pub returns-then-file-body_at : goal.returns-then-file-body_at
 unfolding first_of
-returns-then-file-body_at c = rw (passed_before (side_checks _) _ ((rw (c.read_u32-width.ensures, c.read_u32-height.ensures)) ∙ sym c.size-checked.ensures ∙ c.in-Passed.is), ← c.read_u32-width.ensures, ← c.read_u32-height.ensures, ← c.body_at.ensures, ← c.encoded_length.ensures, ne_eqb _ _ c.if-file-body_at.true)
+returns-then-file-body_at c =
+    let told : first_of (side_checks c.args.file.now) ≡ Passed = rw (← c.read_u32-width.ensures, ← c.read_u32-height.ensures) (sym c.size-checked.ensures ∙ c.in-Passed.is) in
+    rw (passed_before (side_checks c.args.file.now) _ told, ← c.read_u32-width.ensures, ← c.read_u32-height.ensures, ← c.body_at.ensures, ← c.encoded_length.ensures, ne_eqb _ _ c.if-file-body_at.true)
 
 pub returns-in-Refused : goal.returns-in-Refused
 returns-in-Refused c =
     let file = c.args.file.now in
-    sym (refused_before (side_checks file) (body_checks file) ((rw (c.read_u32-width.ensures, c.read_u32-height.ensures)) ∙ sym c.size-checked.ensures ∙ c.in-Refused.is))
+    let told : first_of (side_checks file) ≡ Refused c.in-Refused.q = rw (← c.read_u32-width.ensures, ← c.read_u32-height.ensures) (sym c.size-checked.ensures ∙ c.in-Refused.is) in
+    sym (refused_before (side_checks file) (body_checks file) told)
 
 pub returns-else-file-body_at : goal.returns-else-file-body_at
 unfolding first_of
-returns-else-file-body_at c = rw (passed_before (side_checks _) _ ((rw (c.read_u32-width.ensures, c.read_u32-height.ensures)) ∙ sym c.size-checked.ensures ∙ c.in-Passed.is), ← c.read_u32-width.ensures, ← c.read_u32-height.ensures, ← c.body_at.ensures, ← c.encoded_length.ensures, eq-eqb _ _ c.if-file-body_at.false)
+returns-else-file-body_at c =
+    let told : first_of (side_checks c.args.file.now) ≡ Passed = rw (← c.read_u32-width.ensures, ← c.read_u32-height.ensures) (sym c.size-checked.ensures ∙ c.in-Passed.is) in
+    rw (passed_before (side_checks c.args.file.now) _ told, ← c.read_u32-width.ensures, ← c.read_u32-height.ensures, ← c.body_at.ensures, ← c.encoded_length.ensures, eq-eqb _ _ c.if-file-body_at.false)
