@@ -1,5 +1,6 @@
 // bc4.rs: the two compressions of a block.
 #![tactic(auto)]
+
 pub mod inter4;
 pub mod inter6;
 pub mod network;

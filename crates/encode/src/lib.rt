@@ -1,5 +1,6 @@
 // compress_bc4_block.
 #![tactic(auto)]
+
 ghost use Rattle.std.specs.Prelude.{◌≡◌, true};
 ghost use Rattle.encode.specs.Encoder.{searches as searches_of, amid as amid_of, six_only, compressed_of, encoded as encoded_of, compressed};
 ghost use Rattle.std.specs.Float.Ieee.{le};

@@ -1,6 +1,7 @@
 // A tile of samples, encoded block by block into the bytes that the caller lends, and a block's part of such bytes. A block has one channel in eight bytes
 // or two in sixteen: `size` is its bytes. Refusals are the caller's: what it checks is asked for here.
 #![tactic(auto)]
+
 ghost use Rattle.std.specs.Prelude.{◌≡◌, false, ◌++◌, ◌+◌, ◌*◌, ◌<◌, ◌≤◌, length, take, drop};
 ghost use Rattle.place.specs.Place.{longest_side, bad_size, along, bc4_size, bc5_size, encoded_length, block_at, joined, all_bytes};
 ghost use Rattle.tile.specs.Tile.{block_bytes, pair_bytes, tile_bytes, block_in, laid_in, channel_block};
