@@ -1,6 +1,7 @@
 // What a board and a station link: document 01, "Calls and numbers". A block's eight bytes are handed back as one number, byte 0 lowest; `bytes`
 // lays them out.
 #![tactic(auto)]
+
 ghost use Rattle.std.specs.Prelude.{◌≡◌, length};
 ghost use Rattle.index_list.specs.Layout.{bytes_of};
 ghost use Rattle.refusal.specs.Refusals.{first_of, decode_checks, view_checks};
