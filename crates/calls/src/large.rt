@@ -1,15 +1,10 @@
-// The largest tile, 1,024 by 1,024: its samples take 4 MiB of the stack.
+// The largest tile, 1,024 by 1,024: its samples take 4 MiB, and are on the heap.
 use crate::{tiles, views};
 use cases::{given, show};
 use given::NONE;
 use std::io;
 
-fn tiled(
-    rt: &impl Print,
-    samples: &mut [f32; 1048576],
-    nan: usize,
-    out: &mut [u8; 524296],
-) -> io::Result<()> {
+fn tiled(rt: &impl Print, samples: &mut [f32], nan: usize, out: &mut [u8]) -> io::Result<()> {
     given::fill_samples(samples, nan, NONE);
     show::text(rt, "tile ")?;
     show::size(rt, 1024, 1024)?;
@@ -32,7 +27,7 @@ fn viewed(rt: &impl Print, out: &[u8], column: usize, row: usize) -> io::Result<
     views::answer(rt, given::first_bytes(out, 524288), 1024, 1024, column, row)
 }
 
-fn looked_at(rt: &impl Print, out: &[u8; 524296]) -> io::Result<()> {
+fn looked_at(rt: &impl Print, out: &[u8]) -> io::Result<()> {
     past(rt, out, 524288)?;
     viewed(rt, out, 0, 0)?;
     viewed(rt, out, 255, 0)?;
@@ -41,10 +36,10 @@ fn looked_at(rt: &impl Print, out: &[u8; 524296]) -> io::Result<()> {
 }
 
 // A NaN in the last sample leaves all of the output as it was; without it, only the bytes past the last block stay.
-pub fn cases(rt: &impl Print) -> io::Result<()> {
-    let mut samples = [0.0f32; 1048576];
-    let mut out = [0xa5u8; 524296];
-    tiled(rt, &mut samples, 1048575, &mut out)?;
-    tiled(rt, &mut samples, NONE, &mut out)?;
-    looked_at(rt, &out)
+pub fn cases(rt: &(impl Print + AllocGlobal)) -> io::Result<()> {
+    let mut samples = vec![in rt.alloc(); 0.0f32; 1048576]?;
+    let mut out = vec![in rt.alloc(); 0xa5u8; 524296]?;
+    tiled(rt, samples.as_mut_slice(), 1048575, out.as_mut_slice())?;
+    tiled(rt, samples.as_mut_slice(), NONE, out.as_mut_slice())?;
+    looked_at(rt, out.as_slice())
 }

@@ -11,11 +11,11 @@ fn read(rt: &impl Print, file: &[u8]) -> io::Result<()> {
     show::text(rt, "\n")
 }
 
-pub fn cases(rt: &impl Print) -> io::Result<()> {
-    let mut tile = [0u8; 524288];
-    given::fill_bytes(&mut tile);
-    let mut file = [0xa5u8; 524424];
-    writing::write(rt, &tile, 1024, 1024, true, &mut file)?;
-    show::after(rt, &file)?;
-    read(rt, given::first_bytes(&file, 524416))
+pub fn cases(rt: &(impl Print + AllocGlobal)) -> io::Result<()> {
+    let mut tile = vec![in rt.alloc(); 0u8; 524288]?;
+    given::fill_bytes(tile.as_mut_slice());
+    let mut file = vec![in rt.alloc(); 0xa5u8; 524424]?;
+    writing::write(rt, tile.as_slice(), 1024, 1024, true, file.as_mut_slice())?;
+    show::after(rt, file.as_slice())?;
+    read(rt, given::first_bytes(file.as_slice(), 524416))
 }

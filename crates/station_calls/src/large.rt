@@ -90,20 +90,24 @@ fn corner(
     held(rt, tile, record)
 }
 
-fn largest(rt: &impl Print) -> io::Result<()> {
-    let mut tile = [0u8; 524288];
-    given::fill_bytes(&mut tile);
-    let mut record = [0u32; 65536];
-    corner(rt, &mut tile, &mut record, 65535, 0, 0)?;
-    corner(rt, &mut tile, &mut record, 65536, 255, 255)?;
-    corner(rt, &mut tile, &mut record, 65536, 255, 0)?;
-    corner(rt, &mut tile, &mut record, 65536, 0, 255)?;
-    corner(rt, &mut tile, &mut record, 65536, 255, 255)?;
-    corner(rt, &mut tile, &mut record, 65536, 256, 255)?;
-    corner(rt, &mut tile, &mut record, 65536, 255, 256)
+fn corners(rt: &impl Print, tile: &mut [u8], record: &mut [u32]) -> io::Result<()> {
+    corner(rt, tile, record, 65535, 0, 0)?;
+    corner(rt, tile, record, 65536, 255, 255)?;
+    corner(rt, tile, record, 65536, 255, 0)?;
+    corner(rt, tile, record, 65536, 0, 255)?;
+    corner(rt, tile, record, 65536, 255, 255)?;
+    corner(rt, tile, record, 65536, 256, 255)?;
+    corner(rt, tile, record, 65536, 255, 256)
 }
 
-pub fn cases(rt: &impl Print) -> io::Result<()> {
+fn largest(rt: &(impl Print + AllocGlobal)) -> io::Result<()> {
+    let mut tile = vec![in rt.alloc(); 0u8; 524288]?;
+    given::fill_bytes(tile.as_mut_slice());
+    let mut record = vec![in rt.alloc(); 0u32; 65536]?;
+    corners(rt, tile.as_mut_slice(), record.as_mut_slice())
+}
+
+pub fn cases(rt: &(impl Print + AllocGlobal)) -> io::Result<()> {
     rows(rt)?;
     columns(rt)?;
     largest(rt)
