@@ -1,6 +1,7 @@
 // Two channels, as a current map has them: document 02, 3/12. A block is sixteen bytes, the first channel's BC4 block and then the second's. A call looks at
 // both channels before it makes either half; each half is made by the function that makes it for `bc4`.
 #![tactic(auto)]
+
 ghost use Rattle.std.specs.Prelude.{◌≡◌, length};
 ghost use Rattle.refusal.specs.Refusals.{first_of};
 ghost use Rattle.bc4.specs.Calls.{samples_after};

@@ -5,33 +5,48 @@ use bc4::word::Word;
 use bc5::{Halves, Options};
 use cases::{given, show};
 use given::Sixteen;
+use std::io;
 
 // All 0, by index 0 and by index 6 of the four-value mode: an equal error keeps the held half.
 const ZERO: u64 = 0;
 
 const ALSO_ZERO: u64 = 0xdb6d_b6db_6db6_0000;
 
-fn named(first: Sixteen, second: Sixteen, held: &[u8], o: Options) {
-    show::samples(first);
-    show::text(b" beside ");
-    show::samples(second);
-    show::text(b", ");
-    show::bytes(held);
-    show::format(o.snorm);
-    show::option(o.dither, b", dither");
+fn named(
+    rt: &impl Print,
+    first: Sixteen,
+    second: Sixteen,
+    held: &[u8],
+    o: Options,
+) -> io::Result<()> {
+    show::samples(rt, first)?;
+    show::text(rt, " beside ")?;
+    show::samples(rt, second)?;
+    show::text(rt, ", ")?;
+    show::bytes(rt, held)?;
+    show::format(rt, o.snorm)?;
+    show::option(rt, o.dither, ", dither")
 }
 
-fn valued(first: Sixteen, second: Sixteen, a: u64, b: u64, o: Options) {
+fn valued(
+    rt: &impl Print,
+    first: Sixteen,
+    second: Sixteen,
+    a: u64,
+    b: u64,
+    o: Options,
+) -> io::Result<()> {
     let held = bc5::bytes(Halves {
         first: a,
         second: b,
     });
-    named(first, second, &held, o);
-    decoding::answer(&held, o.snorm);
+    named(rt, first, second, &held, o)?;
+    decoding::answer(rt, &held, o.snorm)?;
     let x = given::block(first);
     let y = given::block(second);
-    answers::by_options(&x, &y, &held, o);
+    answers::by_options(rt, &x, &y, &held, o)?;
     answers::by_word(
+        rt,
         &x,
         &y,
         &held,
@@ -39,7 +54,7 @@ fn valued(first: Sixteen, second: Sixteen, a: u64, b: u64, o: Options) {
             options: o,
             malformed: false,
         },
-    );
+    )
 }
 
 // Of the slopes, of the later ones, and of both in the signed format: what the call encodes; what a search over the ends finds, which is better; and a worse one.
@@ -57,60 +72,72 @@ fn half(k: usize) -> u64 {
     }
 }
 
-fn slopes(a: usize, b: usize, o: Options) {
-    valued(Sixteen::Slopes, Sixteen::LaterSlopes, half(a), half(b), o);
+fn slopes(rt: &impl Print, a: usize, b: usize, o: Options) -> io::Result<()> {
+    valued(
+        rt,
+        Sixteen::Slopes,
+        Sixteen::LaterSlopes,
+        half(a),
+        half(b),
+        o,
+    )
 }
 
 // Each choice for the first half with each for the second, in both formats. Where one half is worse and the other better, a choice by the sum of both errors
 // would replace both.
-pub fn numbered(k: usize) {
-    slopes(k % 3, 3 + k / 3, given::options(false, false, false));
-    slopes(6 + k % 3, 9 + k / 3, given::options(false, true, false));
+pub fn numbered(rt: &impl Print, k: usize) -> io::Result<()> {
+    slopes(rt, k % 3, 3 + k / 3, given::options(false, false, false))?;
+    slopes(rt, 6 + k % 3, 9 + k / 3, given::options(false, true, false))
 }
 
 // The first line is the worked value: eight 00, then ff and seven 00. In the one with 81 80, -127 is above -128, so that this half has six values, the other four.
-pub fn cases() {
+pub fn cases(rt: &impl Print) -> io::Result<()> {
     let unsigned = given::options(false, false, false);
     let signed = given::options(false, true, false);
-    valued(Sixteen::Zeros, Sixteen::Ones, ZERO, ALSO_ZERO, unsigned);
+    valued(rt, Sixteen::Zeros, Sixteen::Ones, ZERO, ALSO_ZERO, unsigned)?;
     valued(
+        rt,
         Sixteen::Ones,
         Sixteen::Zeros,
         ALSO_ZERO,
         ALSO_ZERO,
         unsigned,
-    );
-    valued(Sixteen::Zeros, Sixteen::Ones, ZERO, ALSO_ZERO, signed);
+    )?;
+    valued(rt, Sixteen::Zeros, Sixteen::Ones, ZERO, ALSO_ZERO, signed)?;
     valued(
+        rt,
         Sixteen::MinusInfinite,
         Sixteen::Infinite,
         ZERO,
         ZERO,
         unsigned,
-    );
+    )?;
     valued(
+        rt,
         Sixteen::ZeroAndOne,
         Sixteen::BothInfinite,
         0xfac6_88fa_c688_00ff,
         0xfac6_88fa_c688_ff00,
         unsigned,
-    );
+    )?;
     valued(
+        rt,
         Sixteen::ZeroAndOne,
         Sixteen::BothInfinite,
         0xfac6_88fa_c688_817f,
         0xfac6_88fa_c688_7f81,
         signed,
-    );
+    )?;
     valued(
+        rt,
         Sixteen::BothOutside,
         Sixteen::ZeroAndOne,
         0xfac6_88fa_c688_8081,
         0xfac6_88fa_c688_8180,
         signed,
-    );
-    slopes(0, 3, given::options(true, false, false));
-    slopes(6, 9, given::options(true, true, false));
+    )?;
+    slopes(rt, 0, 3, given::options(true, false, false))?;
+    slopes(rt, 6, 9, given::options(true, true, false))?;
     // the halves exchanged: each is held against its own channel
-    slopes(3, 0, unsigned);
+    slopes(rt, 3, 0, unsigned)
 }

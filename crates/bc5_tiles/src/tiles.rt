@@ -5,41 +5,69 @@ use bc5::{Options, Tiled};
 use cases::{given, show};
 use given::{FAR, NONE};
 use refusal::Channel;
+use std::io;
 
-fn shown(t: Tiled, out: &[u8; 4128]) {
+fn shown(rt: &impl Print, t: Tiled, out: &[u8; 4128]) -> io::Result<()> {
     match t {
-        Tiled::Refused(q) => show::refused(q),
+        Tiled::Refused(q) => show::refused(rt, q)?,
         Tiled::Written(n) => {
-            show::text(b"written ");
-            show::number(n);
+            show::text(rt, "written ")?;
+            show::number(rt, n)?;
         }
     }
-    show::text(b", out ");
-    show::checksum(out);
+    show::text(rt, ", out ")?;
+    show::checksum(rt, out)
 }
 
 // Into the first `room` bytes.
-fn by_options(first: &[f32], second: &[f32], width: usize, height: usize, room: usize, o: Options) {
+fn by_options(
+    rt: &impl Print,
+    first: &[f32],
+    second: &[f32],
+    width: usize,
+    height: usize,
+    room: usize,
+    o: Options,
+) -> io::Result<()> {
     let mut out = [0xa5u8; 4128];
     if room <= 4128 {
         let t = bc5::encode_tile(first, second, width, height, o, &mut out[0..room]);
-        shown(t, &out);
+        shown(rt, t, &out)?;
     }
+    Ok(())
 }
 
-fn by_word(first: &[f32], second: &[f32], width: usize, height: usize, room: usize, w: Word) {
+fn by_word(
+    rt: &impl Print,
+    first: &[f32],
+    second: &[f32],
+    width: usize,
+    height: usize,
+    room: usize,
+    w: Word,
+) -> io::Result<()> {
     let mut out = [0xa5u8; 4128];
     if room <= 4128 {
         let t = bc5::word::encode_tile(first, second, width, height, w, &mut out[0..room]);
-        shown(t, &out);
+        shown(rt, t, &out)?;
     }
+    Ok(())
 }
 
-fn answer(first: &[f32], second: &[f32], width: usize, height: usize, room: usize, o: Options) {
-    show::text(b": ");
-    by_options(first, second, width, height, room, o);
-    show::text(b", by word ");
+fn answer(
+    rt: &impl Print,
+    first: &[f32],
+    second: &[f32],
+    width: usize,
+    height: usize,
+    room: usize,
+    o: Options,
+) -> io::Result<()> {
+    show::text(rt, ": ")?;
+    by_options(rt, first, second, width, height, room, o)?;
+    show::text(rt, ", by word ")?;
     by_word(
+        rt,
         first,
         second,
         width,
@@ -49,11 +77,12 @@ fn answer(first: &[f32], second: &[f32], width: usize, height: usize, room: usiz
             options: o,
             malformed: true,
         },
-    );
-    show::text(b"\n");
+    )?;
+    show::text(rt, "\n")
 }
 
 fn named(
+    rt: &impl Print,
     width: usize,
     height: usize,
     first: usize,
@@ -62,19 +91,20 @@ fn named(
     nan_there: usize,
     room: usize,
     snorm: bool,
-) {
-    show::text(b"tile ");
-    show::size(width, height);
-    show::text(b", ");
-    show::sample_count(first);
-    show::nans(nan, NONE);
-    show::text(b" beside ");
-    show::counts(second, b" into ", room);
-    show::nans(nan_there, NONE);
-    show::format(snorm);
+) -> io::Result<()> {
+    show::text(rt, "tile ")?;
+    show::size(rt, width, height)?;
+    show::text(rt, ", ")?;
+    show::sample_count(rt, first)?;
+    show::nans(rt, nan, NONE)?;
+    show::text(rt, " beside ")?;
+    show::counts(rt, second, " into ", room)?;
+    show::nans(rt, nan_there, NONE)?;
+    show::format(rt, snorm)
 }
 
 pub fn tiled(
+    rt: &impl Print,
     width: usize,
     height: usize,
     first: usize,
@@ -83,29 +113,32 @@ pub fn tiled(
     nan_there: usize,
     room: usize,
     snorm: bool,
-) {
-    named(width, height, first, nan, second, nan_there, room, snorm);
+) -> io::Result<()> {
+    named(
+        rt, width, height, first, nan, second, nan_there, room, snorm,
+    )?;
     let mut a = [0.0f32; 4112];
     given::fill_channel(Channel::First, &mut a, nan, NONE);
     let mut b = [0.0f32; 4112];
     given::fill_channel(Channel::Second, &mut b, nan_there, NONE);
     answer(
+        rt,
         given::first_samples(&a, first),
         given::first_samples(&b, second),
         width,
         height,
         room,
         given::options(false, snorm, false),
-    );
+    )
 }
 
 // As many bytes as samples of a channel.
-fn sized(width: usize, height: usize, count: usize) {
-    tiled(width, height, count, NONE, count, NONE, count, false);
+fn sized(rt: &impl Print, width: usize, height: usize, count: usize) -> io::Result<()> {
+    tiled(rt, width, height, count, NONE, count, NONE, count, false)
 }
 
-fn into(room: usize, snorm: bool) {
-    tiled(12, 8, 96, NONE, 96, NONE, room, snorm);
+fn into(rt: &impl Print, room: usize, snorm: bool) -> io::Result<()> {
+    tiled(rt, 12, 8, 96, NONE, 96, NONE, room, snorm)
 }
 
 // 0 is none, and 3 past the end of what is lent.
@@ -127,13 +160,13 @@ fn if_set(bit: usize, wrong: usize, right: usize) -> usize {
 
 // Each count with each; each place of a NaN with each; then every set of faults, by its bits: first count, second count, room, NaN in the first channel, NaN in
 // the second.
-pub fn numbered(k: usize) {
+pub fn numbered(rt: &impl Print, k: usize) -> io::Result<()> {
     if k < 9 {
-        tiled(12, 8, 95 + k % 3, NONE, 95 + k / 3, NONE, 96, false);
-        return;
+        return tiled(rt, 12, 8, 95 + k % 3, NONE, 95 + k / 3, NONE, 96, false);
     }
     if k < 25 {
-        tiled(
+        return tiled(
+            rt,
             12,
             8,
             96,
@@ -143,10 +176,10 @@ pub fn numbered(k: usize) {
             96,
             false,
         );
-        return;
     }
     let set = k - 25;
     tiled(
+        rt,
         12,
         8,
         if_set(set % 2, 95, 96),
@@ -155,26 +188,26 @@ pub fn numbered(k: usize) {
         if_set(set / 16 % 2, 37, NONE),
         if_set(set / 4 % 2, 95, 96),
         false,
-    );
+    )
 }
 
-pub fn cases() {
-    sized(4, 4, 16);
-    sized(0, 4, 0);
-    sized(4, 0, 0);
-    sized(6, 4, 24);
-    sized(4, 6, 24);
-    sized(1024, 4, 4096);
-    sized(4, 1024, 4096);
-    sized(1028, 4, 4112);
-    sized(4, 1028, 4112);
-    sized(FAR, 4, 16);
-    sized(4, FAR, 16);
-    into(0, false);
-    into(48, false);
-    into(97, false);
-    into(4128, false);
-    into(96, true);
-    tiled(8, 12, 96, NONE, 96, 37, 96, false);
-    tiled(4, 1024, 4096, NONE, 4096, 4095, 4096, false);
+pub fn cases(rt: &impl Print) -> io::Result<()> {
+    sized(rt, 4, 4, 16)?;
+    sized(rt, 0, 4, 0)?;
+    sized(rt, 4, 0, 0)?;
+    sized(rt, 6, 4, 24)?;
+    sized(rt, 4, 6, 24)?;
+    sized(rt, 1024, 4, 4096)?;
+    sized(rt, 4, 1024, 4096)?;
+    sized(rt, 1028, 4, 4112)?;
+    sized(rt, 4, 1028, 4112)?;
+    sized(rt, FAR, 4, 16)?;
+    sized(rt, 4, FAR, 16)?;
+    into(rt, 0, false)?;
+    into(rt, 48, false)?;
+    into(rt, 97, false)?;
+    into(rt, 4128, false)?;
+    into(rt, 96, true)?;
+    tiled(rt, 8, 12, 96, NONE, 96, 37, 96, false)?;
+    tiled(rt, 4, 1024, 4096, NONE, 4096, 4095, 4096, false)
 }

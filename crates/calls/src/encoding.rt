@@ -2,105 +2,113 @@
 use bc4::{Encoded, Options};
 use cases::{given, show};
 use given::{NONE, Sixteen};
+use std::io;
 
-pub fn shown(e: Encoded) {
+pub fn shown(rt: &impl Print, e: Encoded) -> io::Result<()> {
     match e {
-        Encoded::Refused(q) => show::refused(q),
-        Encoded::Block(b) => show::block(b),
+        Encoded::Refused(q) => show::refused(rt, q),
+        Encoded::Block(b) => show::block(rt, b),
     }
 }
 
-fn answer(samples: &[f32], o: Options) {
-    show::text(b": ");
-    shown(bc4::encode_block(samples, o));
-    show::text(b"\n");
+fn answer(rt: &impl Print, samples: &[f32], o: Options) -> io::Result<()> {
+    show::text(rt, ": ")?;
+    shown(rt, bc4::encode_block(samples, o))?;
+    show::text(rt, "\n")
 }
 
 // With NaN at two indexes or none.
-fn counted(count: usize, first: usize, second: usize) {
+fn counted(rt: &impl Print, count: usize, first: usize, second: usize) -> io::Result<()> {
     let s = given::samples(first, second);
-    show::text(b"encode ");
-    show::sample_count(count);
-    show::nans(first, second);
+    show::text(rt, "encode ")?;
+    show::sample_count(rt, count)?;
+    show::nans(rt, first, second)?;
     answer(
+        rt,
         given::first_samples(&s, count),
         given::options(false, false, false),
-    );
+    )
 }
 
-fn valued(what: Sixteen, dither: bool, snorm: bool, search: bool) {
+fn valued(
+    rt: &impl Print,
+    what: Sixteen,
+    dither: bool,
+    snorm: bool,
+    search: bool,
+) -> io::Result<()> {
     let s = given::block(what);
-    show::text(b"encode ");
-    show::samples(what);
-    show::format(snorm);
-    show::option(dither, b", dither");
-    show::option(search, b", search");
-    answer(&s, given::options(dither, snorm, search));
+    show::text(rt, "encode ")?;
+    show::samples(rt, what)?;
+    show::format(rt, snorm)?;
+    show::option(rt, dither, ", dither")?;
+    show::option(rt, search, ", search")?;
+    answer(rt, &s, given::options(dither, snorm, search))
 }
 
-fn counts() {
-    counted(0, NONE, NONE);
-    counted(7, NONE, NONE);
-    counted(8, NONE, NONE);
-    counted(9, NONE, NONE);
-    counted(15, NONE, NONE);
-    counted(16, NONE, NONE);
-    counted(17, NONE, NONE);
+fn counts(rt: &impl Print) -> io::Result<()> {
+    counted(rt, 0, NONE, NONE)?;
+    counted(rt, 7, NONE, NONE)?;
+    counted(rt, 8, NONE, NONE)?;
+    counted(rt, 9, NONE, NONE)?;
+    counted(rt, 15, NONE, NONE)?;
+    counted(rt, 16, NONE, NONE)?;
+    counted(rt, 17, NONE, NONE)
 }
 
-fn nans() {
-    counted(16, 0, NONE);
-    counted(16, 15, NONE);
-    counted(16, 4, 9);
-    counted(16, 0, 15);
+fn nans(rt: &impl Print) -> io::Result<()> {
+    counted(rt, 16, 0, NONE)?;
+    counted(rt, 16, 15, NONE)?;
+    counted(rt, 16, 4, 9)?;
+    counted(rt, 16, 0, 15)?;
     // past the end of what is lent
-    counted(16, 16, NONE);
+    counted(rt, 16, 16, NONE)?;
     // 2 with 7
-    counted(15, 3, NONE);
-    counted(17, 3, NONE);
-    counted(17, 16, NONE);
+    counted(rt, 15, 3, NONE)?;
+    counted(rt, 17, 3, NONE)?;
+    counted(rt, 17, 16, NONE)
 }
 
-fn values() {
-    valued(Sixteen::Slopes, false, false, false);
-    valued(Sixteen::Slopes, false, true, false);
-    valued(Sixteen::Slopes, true, false, false);
-    valued(Sixteen::Slopes, true, true, false);
-    valued(Sixteen::Slopes, false, false, true);
-    valued(Sixteen::Slopes, false, true, true);
+fn values(rt: &impl Print) -> io::Result<()> {
+    valued(rt, Sixteen::Slopes, false, false, false)?;
+    valued(rt, Sixteen::Slopes, false, true, false)?;
+    valued(rt, Sixteen::Slopes, true, false, false)?;
+    valued(rt, Sixteen::Slopes, true, true, false)?;
+    valued(rt, Sixteen::Slopes, false, false, true)?;
+    valued(rt, Sixteen::Slopes, false, true, true)
 }
 
-fn flat() {
-    valued(Sixteen::Zeros, false, false, false);
-    valued(Sixteen::Zeros, false, true, false);
-    valued(Sixteen::Zeros, false, false, true);
-    valued(Sixteen::Ones, false, false, false);
-    valued(Sixteen::Ones, false, true, false);
-    valued(Sixteen::Ones, false, false, true);
+fn flat(rt: &impl Print) -> io::Result<()> {
+    valued(rt, Sixteen::Zeros, false, false, false)?;
+    valued(rt, Sixteen::Zeros, false, true, false)?;
+    valued(rt, Sixteen::Zeros, false, false, true)?;
+    valued(rt, Sixteen::Ones, false, false, false)?;
+    valued(rt, Sixteen::Ones, false, true, false)?;
+    valued(rt, Sixteen::Ones, false, false, true)
 }
 
 // Infinite samples are clamped: the same bytes as 0 and 1.
-fn infinite() {
-    valued(Sixteen::ZeroAndOne, false, false, false);
-    valued(Sixteen::BothInfinite, false, false, false);
-    valued(Sixteen::ZeroAndOne, false, true, false);
-    valued(Sixteen::BothInfinite, false, true, false);
-    valued(Sixteen::ZeroAndOne, true, false, false);
-    valued(Sixteen::BothInfinite, true, false, false);
+fn infinite(rt: &impl Print) -> io::Result<()> {
+    valued(rt, Sixteen::ZeroAndOne, false, false, false)?;
+    valued(rt, Sixteen::BothInfinite, false, false, false)?;
+    valued(rt, Sixteen::ZeroAndOne, false, true, false)?;
+    valued(rt, Sixteen::BothInfinite, false, true, false)?;
+    valued(rt, Sixteen::ZeroAndOne, true, false, false)?;
+    valued(rt, Sixteen::BothInfinite, true, false, false)
 }
 
-fn infinite_flat() {
-    valued(Sixteen::Infinite, false, false, false);
-    valued(Sixteen::Infinite, false, false, true);
-    valued(Sixteen::MinusInfinite, false, true, false);
-    valued(Sixteen::MinusInfinite, false, false, true);
+fn infinite_flat(rt: &impl Print) -> io::Result<()> {
+    valued(rt, Sixteen::Infinite, false, false, false)?;
+    valued(rt, Sixteen::Infinite, false, false, true)?;
+    valued(rt, Sixteen::MinusInfinite, false, true, false)?;
+    valued(rt, Sixteen::MinusInfinite, false, false, true)
 }
 
-pub fn cases() {
-    counts();
-    nans();
-    values();
-    flat();
-    infinite();
-    infinite_flat();
+pub fn cases(rt: &impl Print) -> io::Result<()> {
+    counts(rt)?;
+    nans(rt)?;
+    values(rt)?;
+    flat(rt)?;
+    infinite(rt)?;
+    infinite_flat(rt)
 }

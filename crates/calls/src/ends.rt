@@ -1,22 +1,23 @@
 // The endpoint bytes of two floats that are the same, an inner function: the run value of document 01, and those that are proved.
 use cases::show;
 use end_points::EndPoints;
+use std::io;
 
-fn six(named: &[u8], x: f32, snorm: bool) {
+fn six(rt: &impl Print, named: &str, x: f32, snorm: bool) -> io::Result<()> {
     let e = EndPoints::new_inter6(x, x, snorm);
-    show::text(b"six-value ends of ");
-    show::text(named);
-    show::format(snorm);
-    show::text(b": ");
-    show::bytes(&[e.c0, e.c1]);
-    show::text(b"\n");
+    show::text(rt, "six-value ends of ")?;
+    show::text(rt, named)?;
+    show::format(rt, snorm)?;
+    show::text(rt, ": ")?;
+    show::bytes(rt, &[e.c0, e.c1])?;
+    show::text(rt, "\n")
 }
 
-pub fn cases() {
-    six(b"0.5 and 0.5", 0.5, false);
-    six(b"0 and 0", 0.0, false);
-    six(b"1 and 1", 1.0, false);
-    six(b"0 and 0", 0.0, true);
-    six(b"1 and 1", 1.0, true);
-    six(b"NaN and NaN", 0.0 / 0.0, false);
+pub fn cases(rt: &impl Print) -> io::Result<()> {
+    six(rt, "0.5 and 0.5", 0.5, false)?;
+    six(rt, "0 and 0", 0.0, false)?;
+    six(rt, "1 and 1", 1.0, false)?;
+    six(rt, "0 and 0", 0.0, true)?;
+    six(rt, "1 and 1", 1.0, true)?;
+    six(rt, "NaN and NaN", 0.0 / 0.0, false)
 }

@@ -5,37 +5,37 @@ ghost use Rattle.std.specs.Float.Ieee.{is_nan};
 use crate::given;
 use bc4::{Checked, Refusal};
 use given::Sixteen;
-use libc::STDOUT_FILENO;
 use refusal::{Channel, Fault, Side, Spot};
+use std::io;
 
-pub fn text(t: &[u8]) {
-    io::write_all(STDOUT_FILENO, t);
+pub fn text(rt: &impl Print, t: &str) -> io::Result<()> {
+    rt.print(t)
 }
 
-pub fn number(n: usize) {
-    io::print_decimal(STDOUT_FILENO, n as u64);
+pub fn number(rt: &impl Print, n: usize) -> io::Result<()> {
+    rt.print(n)
 }
 
-pub fn size(width: usize, height: usize) {
-    number(width);
-    text(b" by ");
-    number(height);
+pub fn size(rt: &impl Print, width: usize, height: usize) -> io::Result<()> {
+    number(rt, width)?;
+    text(rt, " by ")?;
+    number(rt, height)
 }
 
-pub fn sample_count(n: usize) {
-    number(n);
-    text(b" samples");
+pub fn sample_count(rt: &impl Print, n: usize) -> io::Result<()> {
+    number(rt, n)?;
+    text(rt, " samples")
 }
 
-pub fn byte_count(n: usize) {
-    number(n);
-    text(b" bytes");
+pub fn byte_count(rt: &impl Print, n: usize) -> io::Result<()> {
+    number(rt, n)?;
+    text(rt, " bytes")
 }
 
-pub fn counts(samples: usize, joint: &[u8], bytes: usize) {
-    sample_count(samples);
-    text(joint);
-    byte_count(bytes);
+pub fn counts(rt: &impl Print, samples: usize, joint: &str, bytes: usize) -> io::Result<()> {
+    sample_count(rt, samples)?;
+    text(rt, joint)?;
+    byte_count(rt, bytes)
 }
 
 fn wide(b: u8) -> u64
@@ -44,15 +44,16 @@ fn wide(b: u8) -> u64
     b as u64
 }
 
-pub fn bytes(s: &[u8]) {
+pub fn bytes(rt: &impl Print, s: &[u8]) -> io::Result<()> {
     for i in 0..s.len() {
-        io::print_hex(STDOUT_FILENO, wide(s[i]), 2);
+        print!(rt; "{:02x}", s[i])?;
     }
+    Ok(())
 }
 
-pub fn block(b: u64) {
+pub fn block(rt: &impl Print, b: u64) -> io::Result<()> {
     let eight = bc4::bytes(b);
-    bytes(&eight);
+    bytes(rt, &eight)
 }
 
 // A NaN's bits are not defined.
@@ -62,153 +63,156 @@ fn bits(x: f32) -> u32
     f32::to_bits(x)
 }
 
-pub fn float(x: f32) {
+pub fn float(rt: &impl Print, x: f32) -> io::Result<()> {
     if x != x {
-        text(b"nan");
-        return;
+        return text(rt, "nan");
     }
-    io::print_hex(STDOUT_FILENO, bits(x) as u64, 8);
+    print!(rt; "{:08x}", bits(x))
 }
 
-pub fn floats(x: &[f32; 16]) {
+pub fn floats(rt: &impl Print, x: &[f32; 16]) -> io::Result<()> {
     for pixel in 0..16usize {
-        text(b" ");
-        float(x[pixel]);
+        text(rt, " ")?;
+        float(rt, x[pixel])?;
     }
+    Ok(())
 }
 
 // The documents' number, and what comes with it: a side, where a NaN stands, the field of a DDS file, or the channel.
-pub fn refused(q: Refusal) {
-    text(b"refused ");
-    number(bc4::number(q) as usize);
+pub fn refused(rt: &impl Print, q: Refusal) -> io::Result<()> {
+    text(rt, "refused ")?;
+    number(rt, bc4::number(q) as usize)?;
     match q {
-        Refusal::SideIsZero(s) => side(s),
-        Refusal::SideTooLarge(s) => side(s),
-        Refusal::SideNotMultipleOf4(s) => side(s),
-        Refusal::SampleIsNan(i) => at(i),
-        Refusal::TileSampleIsNan(s) => spot(s),
-        Refusal::DdsHeader(_) => field(q),
-        Refusal::InChannel(f) => fault(f),
-        _ => {}
+        Refusal::SideIsZero(s) => side(rt, s),
+        Refusal::SideTooLarge(s) => side(rt, s),
+        Refusal::SideNotMultipleOf4(s) => side(rt, s),
+        Refusal::SampleIsNan(i) => at(rt, i),
+        Refusal::TileSampleIsNan(s) => spot(rt, s),
+        Refusal::DdsHeader(_) => field(rt, q),
+        Refusal::InChannel(f) => fault(rt, f),
+        _ => Ok(())
     }
 }
 
-fn side(s: Side) {
+fn side(rt: &impl Print, s: Side) -> io::Result<()> {
     match s {
-        Side::Width => text(b" width"),
-        Side::Height => text(b" height"),
+        Side::Width => text(rt, " width"),
+        Side::Height => text(rt, " height"),
     }
 }
 
-fn at(index: usize) {
-    text(b" at ");
-    number(index);
+fn at(rt: &impl Print, index: usize) -> io::Result<()> {
+    text(rt, " at ")?;
+    number(rt, index)
 }
 
-fn spot(s: Spot) {
-    at(s.index);
-    text(b", row ");
-    number(s.row);
-    text(b", column ");
-    number(s.column);
+fn spot(rt: &impl Print, s: Spot) -> io::Result<()> {
+    at(rt, s.index)?;
+    text(rt, ", row ")?;
+    number(rt, s.row)?;
+    text(rt, ", column ")?;
+    number(rt, s.column)
 }
 
-fn field(q: Refusal) {
+fn field(rt: &impl Print, q: Refusal) -> io::Result<()> {
     let mut detail = [0usize; 4];
     refusal::detail(q, &mut detail);
-    text(b" field ");
-    number(detail[0]);
+    text(rt, " field ")?;
+    number(rt, detail[0])
 }
 
-fn fault(f: Fault) {
+fn fault(rt: &impl Print, f: Fault) -> io::Result<()> {
     match f {
-        Fault::Count(c) => channel(c),
+        Fault::Count(c) => channel(rt, c),
         Fault::Nan(c, i) => {
-            channel(c);
-            at(i);
+            channel(rt, c)?;
+            at(rt, i)
         }
         Fault::TileNan(c, s) => {
-            channel(c);
-            spot(s);
+            channel(rt, c)?;
+            spot(rt, s)
         }
     }
 }
 
-fn channel(c: Channel) {
+fn channel(rt: &impl Print, c: Channel) -> io::Result<()> {
     match c {
-        Channel::First => text(b" first"),
-        Channel::Second => text(b" second"),
+        Channel::First => text(rt, " first"),
+        Channel::Second => text(rt, " second"),
     }
 }
 
 // The number of a refusal, or 0.
-pub fn checked_number(c: Checked) {
+pub fn checked_number(rt: &impl Print, c: Checked) -> io::Result<()> {
     match c {
-        Checked::Refused(q) => number(bc4::number(q) as usize),
-        Checked::Passed => number(0),
+        Checked::Refused(q) => number(rt, bc4::number(q) as usize),
+        Checked::Passed => number(rt, 0),
     }
 }
 
 // Before what lent memory holds after the call.
-pub fn if_refused(c: Checked) {
+pub fn if_refused(rt: &impl Print, c: Checked) -> io::Result<()> {
     if let Checked::Refused(q) = c {
-        text(b" ");
-        refused(q);
-        text(b",");
+        text(rt, " ")?;
+        refused(rt, q)?;
+        text(rt, ",")?;
     }
+    Ok(())
 }
 
-pub fn samples(what: Sixteen) {
+pub fn samples(rt: &impl Print, what: Sixteen) -> io::Result<()> {
     match what {
-        Sixteen::Slopes => text(b"slopes"),
-        Sixteen::LaterSlopes => text(b"later slopes"),
-        Sixteen::Zeros => text(b"all 0"),
-        Sixteen::Ones => text(b"all 1"),
-        Sixteen::Infinite => text(b"all inf"),
-        Sixteen::MinusInfinite => text(b"all -inf"),
-        Sixteen::ZeroAndOne => text(b"0 and 1"),
-        Sixteen::BothInfinite => text(b"-inf and inf"),
-        Sixteen::BothOutside => text(b"-3.5 and 2.5"),
+        Sixteen::Slopes => text(rt, "slopes"),
+        Sixteen::LaterSlopes => text(rt, "later slopes"),
+        Sixteen::Zeros => text(rt, "all 0"),
+        Sixteen::Ones => text(rt, "all 1"),
+        Sixteen::Infinite => text(rt, "all inf"),
+        Sixteen::MinusInfinite => text(rt, "all -inf"),
+        Sixteen::ZeroAndOne => text(rt, "0 and 1"),
+        Sixteen::BothInfinite => text(rt, "-inf and inf"),
+        Sixteen::BothOutside => text(rt, "-3.5 and 2.5"),
     }
 }
 
-pub fn format(snorm: bool) {
+pub fn format(rt: &impl Print, snorm: bool) -> io::Result<()> {
     if snorm {
-        text(b", signed");
+        text(rt, ", signed")
     } else {
-        text(b", unsigned");
+        text(rt, ", unsigned")
     }
 }
 
-pub fn option(set: bool, name: &[u8]) {
+pub fn option(rt: &impl Print, set: bool, name: &str) -> io::Result<()> {
     if set {
-        text(name);
+        text(rt, name)?;
     }
+    Ok(())
 }
 
-pub fn nans(first: usize, second: usize) {
+pub fn nans(rt: &impl Print, first: usize, second: usize) -> io::Result<()> {
     if first != given::NONE {
-        text(b", NaN at ");
-        number(first);
+        text(rt, ", NaN at ")?;
+        number(rt, first)?;
     }
     if second != given::NONE {
-        text(b" and ");
-        number(second);
+        text(rt, " and ")?;
+        number(rt, second)?;
     }
+    Ok(())
 }
 
 // All of a buffer in eight hex digits: a byte that is another, or elsewhere, shows.
-pub fn checksum(s: &[u8]) {
+pub fn checksum(rt: &impl Print, s: &[u8]) -> io::Result<()> {
     let mut sum: u64 = 0;
     for i in 0..s.len() {
         sum = (sum * 257 + wide(s[i]) + 1) % 4294967291;
     }
-    io::print_hex(STDOUT_FILENO, sum, 8);
+    print!(rt; "{sum:08x}")
 }
 
 // All of the lent output, at the end of a line.
-pub fn after(out: &[u8]) {
-    text(b", out ");
-    checksum(out);
-    text(b"\n");
+pub fn after(rt: &impl Print, out: &[u8]) -> io::Result<()> {
+    text(rt, ", out ")?;
+    checksum(rt, out)?;
+    text(rt, "\n")
 }

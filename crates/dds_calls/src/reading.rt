@@ -3,6 +3,7 @@
 use cases::{given, show};
 use dds::{Found, Picture};
 use given::NONE;
+use std::io;
 
 const ATI1: u32 = 0x31495441;
 
@@ -47,179 +48,188 @@ fn first(file: &[u8; 165], length: usize) -> &[u8] {
     given::first_bytes(file, length)
 }
 
-fn picture(p: Picture) {
-    show::size(p.width, p.height);
-    show::format(p.snorm);
-    show::text(b", from ");
-    show::number(p.start);
+fn picture(rt: &impl Print, p: Picture) -> io::Result<()> {
+    show::size(rt, p.width, p.height)?;
+    show::format(rt, p.snorm)?;
+    show::text(rt, ", from ")?;
+    show::number(rt, p.start)
 }
 
-pub fn found(file: &[u8]) {
+pub fn found(rt: &impl Print, file: &[u8]) -> io::Result<()> {
     let answer = dds::read(file);
     match answer {
-        Found::Refused(q) => show::refused(q),
-        Found::File(p) => picture(p),
+        Found::Refused(q) => show::refused(rt, q),
+        Found::File(p) => picture(rt, p),
     }
 }
 
-fn answer(file: &[u8]) {
-    show::text(b": ");
-    found(file);
-    show::text(b",");
-    show::if_refused(dds::read_refusal(file));
-    show::text(b" [");
-    show::bytes(dds::body(file));
-    show::text(b"]\n");
+fn answer(rt: &impl Print, file: &[u8]) -> io::Result<()> {
+    show::text(rt, ": ")?;
+    found(rt, file)?;
+    show::text(rt, ",")?;
+    show::if_refused(rt, dds::read_refusal(file))?;
+    show::text(rt, " [")?;
+    show::bytes(rt, dds::body(file))?;
+    show::text(rt, "]\n")
 }
 
-fn named(extension: bool, length: usize) {
-    show::text(b"read ");
-    show::byte_count(length);
-    show::option(extension, b" with DX10");
+fn named(rt: &impl Print, extension: bool, length: usize) -> io::Result<()> {
+    show::text(rt, "read ")?;
+    show::byte_count(rt, length)?;
+    show::option(rt, extension, " with DX10")
 }
 
-fn change(at: usize, x: u32) {
+fn change(rt: &impl Print, at: usize, x: u32) -> io::Result<()> {
     if at != NONE {
-        show::text(b", ");
-        show::number(at);
-        show::text(b" is ");
-        show::number(x as usize);
+        show::text(rt, ", ")?;
+        show::number(rt, at)?;
+        show::text(rt, " is ")?;
+        show::number(rt, x as usize)?;
     }
+    Ok(())
 }
 
 // The first `length` bytes, with two fields changed or none.
-fn changed(extension: bool, length: usize, at: usize, x: u32, and_at: usize, and_x: u32) {
+fn changed(
+    rt: &impl Print,
+    extension: bool,
+    length: usize,
+    at: usize,
+    x: u32,
+    and_at: usize,
+    and_x: u32,
+) -> io::Result<()> {
     let mut file = made(extension);
     set(&mut file, at, x);
     set(&mut file, and_at, and_x);
-    named(extension, length);
-    change(at, x);
-    change(and_at, and_x);
-    answer(first(&file, length));
+    named(rt, extension, length)?;
+    change(rt, at, x)?;
+    change(rt, and_at, and_x)?;
+    answer(rt, first(&file, length))
 }
 
-fn long(extension: bool, length: usize) {
-    changed(extension, length, NONE, 0, NONE, 0);
+fn long(rt: &impl Print, extension: bool, length: usize) -> io::Result<()> {
+    changed(rt, extension, length, NONE, 0, NONE, 0)
 }
 
-fn field(at: usize, x: u32) {
-    changed(false, 144, at, x, NONE, 0);
+fn field(rt: &impl Print, at: usize, x: u32) -> io::Result<()> {
+    changed(rt, false, 144, at, x, NONE, 0)
 }
 
-fn extension_field(at: usize, x: u32) {
-    changed(true, 164, at, x, NONE, 0);
+fn extension_field(rt: &impl Print, at: usize, x: u32) -> io::Result<()> {
+    changed(rt, true, 164, at, x, NONE, 0)
 }
 
-fn both(at: usize, x: u32, and_at: usize, and_x: u32) {
-    changed(true, 164, at, x, and_at, and_x);
+fn both(rt: &impl Print, at: usize, x: u32, and_at: usize, and_x: u32) -> io::Result<()> {
+    changed(rt, true, 164, at, x, and_at, and_x)
 }
 
-fn short_files() {
-    long(false, 0);
-    long(false, 127);
-    long(false, 128);
-    long(false, 143);
-    long(false, 144);
-    long(false, 145);
-    long(false, 148);
+fn short_files(rt: &impl Print) -> io::Result<()> {
+    long(rt, false, 0)?;
+    long(rt, false, 127)?;
+    long(rt, false, 128)?;
+    long(rt, false, 143)?;
+    long(rt, false, 144)?;
+    long(rt, false, 145)?;
+    long(rt, false, 148)
 }
 
-fn short_extended_files() {
-    long(true, 0);
-    long(true, 127);
-    long(true, 128);
-    long(true, 144);
-    long(true, 147);
-    long(true, 148);
-    long(true, 163);
-    long(true, 164);
-    long(true, 165);
+fn short_extended_files(rt: &impl Print) -> io::Result<()> {
+    long(rt, true, 0)?;
+    long(rt, true, 127)?;
+    long(rt, true, 128)?;
+    long(rt, true, 144)?;
+    long(rt, true, 147)?;
+    long(rt, true, 148)?;
+    long(rt, true, 163)?;
+    long(rt, true, 164)?;
+    long(rt, true, 165)
 }
 
-fn marks() {
-    field(0, 0x20534445);
-    field(0, 0x44445320);
-    field(4, 123);
-    field(4, 125);
-    field(4, 0x017c);
+fn marks(rt: &impl Print) -> io::Result<()> {
+    field(rt, 0, 0x20534445)?;
+    field(rt, 0, 0x44445320)?;
+    field(rt, 4, 123)?;
+    field(rt, 4, 125)?;
+    field(rt, 4, 0x017c)
 }
 
-fn formats() {
-    field(84, 0x53344342);
-    field(84, ATI1);
-    field(84, 0x55344363);
-    field(84, 0);
-    extension_field(128, 79);
-    extension_field(128, 81);
-    extension_field(128, 82);
-    extension_field(128, 0x0150);
+fn formats(rt: &impl Print) -> io::Result<()> {
+    field(rt, 84, 0x53344342)?;
+    field(rt, 84, ATI1)?;
+    field(rt, 84, 0x55344363)?;
+    field(rt, 84, 0)?;
+    extension_field(rt, 128, 79)?;
+    extension_field(rt, 128, 81)?;
+    extension_field(rt, 128, 82)?;
+    extension_field(rt, 128, 0x0150)
 }
 
-fn pictures() {
-    field(28, 0);
-    field(28, 2);
-    field(28, 0x0101);
-    field(24, 1);
-    field(24, 2);
-    field(24, 0xffff_ffff);
-    extension_field(140, 0);
-    extension_field(140, 2);
-    extension_field(140, 0x0101);
+fn pictures(rt: &impl Print) -> io::Result<()> {
+    field(rt, 28, 0)?;
+    field(rt, 28, 2)?;
+    field(rt, 28, 0x0101)?;
+    field(rt, 24, 1)?;
+    field(rt, 24, 2)?;
+    field(rt, 24, 0xffff_ffff)?;
+    extension_field(rt, 140, 0)?;
+    extension_field(rt, 140, 2)?;
+    extension_field(rt, 140, 0x0101)
 }
 
-fn faces() {
-    field(112, 0x03ff);
-    field(112, 0x0400);
-    field(112, 0x0800);
-    field(112, 0x1000);
-    field(112, 0x2000);
-    field(112, 0x4000);
-    field(112, 0x8000);
-    field(112, 0xffff_03ff);
+fn faces(rt: &impl Print) -> io::Result<()> {
+    field(rt, 112, 0x03ff)?;
+    field(rt, 112, 0x0400)?;
+    field(rt, 112, 0x0800)?;
+    field(rt, 112, 0x1000)?;
+    field(rt, 112, 0x2000)?;
+    field(rt, 112, 0x4000)?;
+    field(rt, 112, 0x8000)?;
+    field(rt, 112, 0xffff_03ff)
 }
 
-fn read_widths() {
-    field(16, 0);
-    field(16, 6);
-    field(16, 1024);
-    field(16, 1028);
-    field(16, 65544);
-    field(16, 0xffff_fffc);
-    field(16, 4);
+fn read_widths(rt: &impl Print) -> io::Result<()> {
+    field(rt, 16, 0)?;
+    field(rt, 16, 6)?;
+    field(rt, 16, 1024)?;
+    field(rt, 16, 1028)?;
+    field(rt, 16, 65544)?;
+    field(rt, 16, 0xffff_fffc)?;
+    field(rt, 16, 4)
 }
 
-fn read_heights() {
-    field(12, 0);
-    field(12, 6);
-    field(12, 1024);
-    field(12, 1028);
-    field(12, 65540);
-    field(12, 0xffff_fffc);
-    field(12, 8);
+fn read_heights(rt: &impl Print) -> io::Result<()> {
+    field(rt, 12, 0)?;
+    field(rt, 12, 6)?;
+    field(rt, 12, 1024)?;
+    field(rt, 12, 1028)?;
+    field(rt, 12, 65540)?;
+    field(rt, 12, 0xffff_fffc)?;
+    field(rt, 12, 8)
 }
 
 // The order of the numbers, and inside a number that of its fields.
-fn in_order() {
-    changed(false, 127, 0, 0, NONE, 0);
-    changed(true, 147, 0, 0, 4, 0);
-    both(0, 0, 4, 0);
-    both(4, 0, 84, ATI1);
-    both(4, 0, 128, 79);
-    both(84, ATI1, 28, 2);
-    both(128, 79, 28, 2);
-    both(28, 2, 24, 2);
+fn in_order(rt: &impl Print) -> io::Result<()> {
+    changed(rt, false, 127, 0, 0, NONE, 0)?;
+    changed(rt, true, 147, 0, 0, 4, 0)?;
+    both(rt, 0, 0, 4, 0)?;
+    both(rt, 4, 0, 84, ATI1)?;
+    both(rt, 4, 0, 128, 79)?;
+    both(rt, 84, ATI1, 28, 2)?;
+    both(rt, 128, 79, 28, 2)?;
+    both(rt, 28, 2, 24, 2)
 }
 
-fn later_in_order() {
-    both(24, 2, 112, 0x400);
-    both(112, 0x400, 140, 0);
-    both(140, 0, 16, 0);
-    both(140, 0, 16, 1028);
-    both(140, 0, 16, 6);
-    both(16, 6, 12, 6);
-    changed(true, 163, 12, 6, NONE, 0);
+fn later_in_order(rt: &impl Print) -> io::Result<()> {
+    both(rt, 24, 2, 112, 0x400)?;
+    both(rt, 112, 0x400, 140, 0)?;
+    both(rt, 140, 0, 16, 0)?;
+    both(rt, 140, 0, 16, 1028)?;
+    both(rt, 140, 0, 16, 6)?;
+    both(rt, 16, 6, 12, 6)?;
+    changed(rt, true, 163, 12, 6, NONE, 0)?;
     // one that another file would have: the fields of an extension that is not there
-    changed(false, 144, 128, 79, 140, 0);
+    changed(rt, false, 144, 128, 79, 140, 0)
 }
 
 fn other(b: u8) -> u8 {
@@ -233,37 +243,37 @@ fn change_byte(file: &mut [u8; 165], k: usize) {
 }
 
 // The number that a file is refused with, 0 for none, once byte k of it is another.
-fn with_another_byte(extension: bool, length: usize, k: usize) {
+fn with_another_byte(rt: &impl Print, extension: bool, length: usize, k: usize) -> io::Result<()> {
     let mut file = made(extension);
     change_byte(&mut file, k);
-    show::text(b" ");
-    show::checked_number(dds::read_refusal(first(&file, length)));
+    show::text(rt, " ")?;
+    show::checked_number(rt, dds::read_refusal(first(&file, length)))
 }
 
-fn each_byte(extension: bool, length: usize) {
-    named(extension, length);
-    show::text(b", each byte changed alone:");
+fn each_byte(rt: &impl Print, extension: bool, length: usize) -> io::Result<()> {
+    named(rt, extension, length)?;
+    show::text(rt, ", each byte changed alone:")?;
     for k in 0..length {
-        with_another_byte(extension, length, k);
+        with_another_byte(rt, extension, length, k)?;
     }
-    show::text(b"\n");
+    show::text(rt, "\n")
 }
 
-fn each_number() {
-    short_files();
-    short_extended_files();
-    marks();
-    formats();
-    pictures();
-    faces();
-    read_widths();
-    read_heights();
-    in_order();
-    later_in_order();
+fn each_number(rt: &impl Print) -> io::Result<()> {
+    short_files(rt)?;
+    short_extended_files(rt)?;
+    marks(rt)?;
+    formats(rt)?;
+    pictures(rt)?;
+    faces(rt)?;
+    read_widths(rt)?;
+    read_heights(rt)?;
+    in_order(rt)?;
+    later_in_order(rt)
 }
 
-pub fn cases() {
-    each_number();
-    each_byte(false, 144);
-    each_byte(true, 164);
+pub fn cases(rt: &impl Print) -> io::Result<()> {
+    each_number(rt)?;
+    each_byte(rt, false, 144)?;
+    each_byte(rt, true, 164)
 }

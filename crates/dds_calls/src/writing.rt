@@ -2,102 +2,125 @@
 use cases::{given, show};
 use dds::Written;
 use given::FAR;
+use std::io;
 
-fn written(answer: Written) {
+fn written(rt: &impl Print, answer: Written) -> io::Result<()> {
     match answer {
-        Written::Refused(q) => show::refused(q),
+        Written::Refused(q) => show::refused(rt, q),
         Written::Bytes(n) => {
-            show::text(b"written ");
-            show::number(n);
+            show::text(rt, "written ")?;
+            show::number(rt, n)
         }
     }
 }
 
-pub fn write(tile: &[u8], width: usize, height: usize, snorm: bool, out: &mut [u8]) {
-    show::text(b"write ");
-    show::size(width, height);
-    show::format(snorm);
-    show::text(b", ");
-    show::byte_count(tile.len());
-    show::text(b" into ");
-    show::number(out.len());
-    show::text(b": ");
-    written(dds::write(tile, width, height, snorm, out));
+pub fn write(
+    rt: &impl Print,
+    tile: &[u8],
+    width: usize,
+    height: usize,
+    snorm: bool,
+    out: &mut [u8],
+) -> io::Result<()> {
+    show::text(rt, "write ")?;
+    show::size(rt, width, height)?;
+    show::format(rt, snorm)?;
+    show::text(rt, ", ")?;
+    show::byte_count(rt, tile.len())?;
+    show::text(rt, " into ")?;
+    show::number(rt, out.len())?;
+    show::text(rt, ": ")?;
+    written(rt, dds::write(tile, width, height, snorm, out))
 }
 
 // Into the first `room` bytes.
-fn into(tile: &[u8], width: usize, height: usize, out: &mut [u8], room: usize) {
+fn into(
+    rt: &impl Print,
+    tile: &[u8],
+    width: usize,
+    height: usize,
+    out: &mut [u8],
+    room: usize,
+) -> io::Result<()> {
     if room <= out.len() {
-        write(tile, width, height, false, &mut out[0..room]);
+        write(rt, tile, width, height, false, &mut out[0..room])?;
     }
+    Ok(())
 }
 
 // A tile of `length` bytes.
-fn wrote(width: usize, height: usize, length: usize, room: usize) {
+fn wrote(
+    rt: &impl Print,
+    width: usize,
+    height: usize,
+    length: usize,
+    room: usize,
+) -> io::Result<()> {
     let mut t = [0u8; 2056];
     given::fill_bytes(&mut t);
     let mut out = [0xa5u8; 2184];
     into(
+        rt,
         given::first_bytes(&t, length),
         width,
         height,
         &mut out,
         room,
-    );
-    show::after(&out);
+    )?;
+    show::after(rt, &out)
 }
 
 // Every byte of a file of 8 by 4, and one that stays.
-fn whole(snorm: bool) {
+fn whole(rt: &impl Print, snorm: bool) -> io::Result<()> {
     let t = given::bytes();
     let mut out = [0xa5u8; 145];
-    write(&t[0..16], 8, 4, snorm, &mut out);
-    show::text(b" ");
-    show::bytes(&out);
-    show::text(b"\n");
+    write(rt, &t[0..16], 8, 4, snorm, &mut out)?;
+    show::text(rt, " ")?;
+    show::bytes(rt, &out)?;
+    show::text(rt, "\n")
 }
 
-fn widths() {
-    wrote(0, 4, 0, 128);
-    wrote(4, 4, 8, 136);
-    wrote(6, 4, 12, 140);
-    wrote(1024, 4, 2048, 2176);
-    wrote(1028, 4, 2056, 2184);
-    wrote(FAR, 4, 8, 136);
+fn widths(rt: &impl Print) -> io::Result<()> {
+    wrote(rt, 0, 4, 0, 128)?;
+    wrote(rt, 4, 4, 8, 136)?;
+    wrote(rt, 6, 4, 12, 140)?;
+    wrote(rt, 1024, 4, 2048, 2176)?;
+    wrote(rt, 1028, 4, 2056, 2184)?;
+    wrote(rt, FAR, 4, 8, 136)
 }
 
-fn heights() {
-    wrote(4, 0, 0, 128);
-    wrote(4, 6, 12, 140);
-    wrote(4, 1024, 2048, 2176);
-    wrote(4, 1028, 2056, 2184);
-    wrote(4, FAR, 8, 136);
-    wrote(FAR, FAR, 8, 136);
+fn heights(rt: &impl Print) -> io::Result<()> {
+    wrote(rt, 4, 0, 0, 128)?;
+    wrote(rt, 4, 6, 12, 140)?;
+    wrote(rt, 4, 1024, 2048, 2176)?;
+    wrote(rt, 4, 1028, 2056, 2184)?;
+    wrote(rt, 4, FAR, 8, 136)?;
+    wrote(rt, FAR, FAR, 8, 136)
 }
 
-fn lengths() {
-    wrote(8, 4, 0, 144);
-    wrote(8, 4, 15, 144);
-    wrote(8, 4, 16, 144);
-    wrote(8, 4, 17, 144);
-    wrote(8, 4, 16, 0);
-    wrote(8, 4, 16, 16);
-    wrote(8, 4, 16, 143);
-    wrote(8, 4, 16, 145);
+fn lengths(rt: &impl Print) -> io::Result<()> {
+    wrote(rt, 8, 4, 0, 144)?;
+    wrote(rt, 8, 4, 15, 144)?;
+    wrote(rt, 8, 4, 16, 144)?;
+    wrote(rt, 8, 4, 17, 144)?;
+    wrote(rt, 8, 4, 16, 0)?;
+    wrote(rt, 8, 4, 16, 16)?;
+    wrote(rt, 8, 4, 16, 143)?;
+    wrote(rt, 8, 4, 16, 145)
 }
 
-fn together() {
-    wrote(6, 4, 16, 144);
-    wrote(6, 4, 12, 139);
-    wrote(8, 4, 15, 143);
-    wrote(8, 6, 15, 143);
+fn together(rt: &impl Print) -> io::Result<()> {
+    wrote(rt, 6, 4, 16, 144)?;
+    wrote(rt, 6, 4, 12, 139)?;
+    wrote(rt, 8, 4, 15, 143)?;
+    wrote(rt, 8, 6, 15, 143)
 }
 
-pub fn cases() {
-    whole(false);
-    whole(true);
-    widths();
-    heights();
-    lengths();
-    together();
+pub fn cases(rt: &impl Print) -> io::Result<()> {
+    whole(rt, false)?;
+    whole(rt, true)?;
+    widths(rt)?;
+    heights(rt)?;
+    lengths(rt)?;
+    together(rt)
 }

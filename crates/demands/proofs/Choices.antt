@@ -106,6 +106,6 @@ module _ (b : List Float) (o : Options) (n : ℕ) where
   by_palette_lem kind e block can r h =
       answer b o n (by_palette kind e block o.dither) can r.made (h ∙ palette_bytes kind e block o.dither) (palette_reads o.snorm kind e block o.dither r)
 
-  pub by_level : (e : EndPoints) → CanChoose b o (by_level e) → Made o.snorm e → n ≡ packed e.c0 e.c1 (filled_to (λ i. 0) 16) → Answer b o n
+  pub by_level_lem : (e : EndPoints) → CanChoose b o (by_level e) → Made o.snorm e → n ≡ packed e.c0 e.c1 (filled_to (λ i. 0) 16) → Answer b o n
   unfolding by_level
-  by_level e can m h = answer b o n (by_level e) can m h (level_reads o.snorm e m)
+  by_level_lem e can m h = answer b o n (by_level e) can m h (level_reads o.snorm e m)

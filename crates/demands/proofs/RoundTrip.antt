@@ -33,7 +33,7 @@ use Rattle.refusal.specs.Refusals.{first_of}
 use Rattle.demands.specs.Demand3.{six_start, five_start, four_start, rounded_ends}
 use Rattle.demands.specs.RoundTrip.{twice, flat, flat_value, is_level, Start, six, five, four, found, level, around, refined, RoundTrip}
 use Rattle.demands.proofs.Demand3.{demand_3}
-use Rattle.demands.proofs.Choices.{ends_ready, pair_ready, Answer, by_palette_lem, by_level}
+use Rattle.demands.proofs.Choices.{ends_ready, pair_ready, Answer, by_palette_lem, by_level_lem}
 
 -- ---- the search is unsigned, and without dither
 plain : (p q r : Bool) → ((p && not q) && not r) ≡ true → (q ≡ false) × (r ≡ false)
@@ -76,7 +76,7 @@ module _ (b : List Float) (o : Options) (s : searches o ≡ false) (f : flat b �
   flat_answer u = go (is_level o.snorm v) refl
     where
       go : (t : Bool) → is_level o.snorm v ≡ t → Answer b o (cond t (uniform (closest v o.snorm) 0) (cond o.dither dithered (nearer_palette v o.snorm)))
-      go true l = by_level b o _ (closest v o.snorm) (level s f l) (closest_made o.snorm v (block_middle_to_1 b u)) refl
+      go true l = by_level_lem b o _ (closest v o.snorm) (level s f l) (closest_made o.snorm v (block_middle_to_1 b u)) refl
       go false l = palette_answer l o.dither refl
 
 -- ---- any other block

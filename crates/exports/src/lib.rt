@@ -1,6 +1,7 @@
 // The calls of `bc4`, `dds`, `bc5` and `station` for C, and for Rust through bindings/rust: the headers in include/ say what each does. Each that can refuse answers the number of the
 // refusal, or 0, and writes its values through references. None asks anything of its arguments: what a pointer and a length must be is the header's to say.
 #![tactic(auto)]
+
 ghost use Rattle.std.specs.Prelude.{◌≡◌, cond, length};
 ghost use Rattle.refusal.specs.Refusals.{number_of, detail_of, first_of, decode_checks, view_checks};
 ghost use Rattle.bc4.specs.Calls.{of_encoded, of_scored, of_resent, of_tiled, samples_after, error_answer, out_after};

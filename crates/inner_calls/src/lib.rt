@@ -2,6 +2,7 @@
 // Results of several numbers go through references: a returned struct would follow the x86-64 calling convention even where the
 // module is compiled for another machine. What an inner function requires is tested first, and the answer is a fixed one where it fails.
 #![tactic(auto)]
+
 ghost use Rattle.std.specs.Prelude.{◌%◌, ◌≡◌, true, false, get_or};
 ghost use Rattle.floats.specs.Helpers.{abs_of, min_of, max_of, lane_min, lane_max, clamp_of, entry_clamp, trunc_of, byte_of, byte_up_to7};
 ghost use Rattle.values.specs.Values.{value_of, norm_of, signed_of};

@@ -13,17 +13,14 @@ use Rattle.lines.specs.declared.output.Line.{Line}
 use Rattle.lines.specs.Output.{hex_line, refused_line, Holds}
 use Rattle.lines.specs.Answers.{answer_of, line_of, record_at, lines_to, AtStart}
 
--- What the output is once `new` was copied over its bytes from `at` on,
-pub copied : (after new : List ℕ) (at : ℕ) → at + length new ≤ length after
-    → put_mid at (length after - at) after (take (length new) new ++ drop (length new) (take (length after - at) (drop at after)))
-    ≡ (take at after ++ new) ++ drop (at + length new) after
-copied after new at room =
-    let all : length (drop at after) ≤ length after - at = simp length-drop (omega arith) in
-    rw (take_all (length after - at) (drop at after) all, drop_of_length-le (drop at after) all, take-length new, drop-drop (length new) at after, append-nil (new ++ drop (at + length new) after))
-    (sym (append_assoc (take at after) new (drop (at + length new) after)))
+-- What the output is once `new` was put over its bytes from `at` on,
+copied : (after new : List ℕ) (at : ℕ) → put_mid at (at + length new - at) after new ≡ (take at after ++ new) ++ drop (at + length new) after
+copied after new at =
+    let count : at + length new - at ≡ length new = omega arith in
+    rw (count, drop-drop (length new) at after) (sym (append_assoc (take at after) new (drop (at + length new) after)))
 
 -- and after a text that stood there before it: the longer text.
-pub written_more : {text before after : List ℕ} {at : ℕ} (new : List ℕ) → AtStart text before after at → at + length new ≤ length after
+written_more : {text before after : List ℕ} {at : ℕ} (new : List ℕ) → AtStart text before after at → at + length new ≤ length after
     → let out = (take at after ++ new) ++ drop (at + length new) after in
     AtStart (text ++ new) before out (at + length new) × (length out ≡ length after)
 written_more {text} {before} {after} {at} new w room =
@@ -37,6 +34,11 @@ written_more {text} {before} {after} {at} new w room =
       },
       same,
     )
+
+-- The same of `n` bytes that were put there.
+pub put_more : {text before after : List ℕ} {at : ℕ} (new : List ℕ) (n : ℕ) → length new ≡ n → AtStart text before after at → at + n ≤ length after
+    → let out = put_mid at (at + n - at) after new in AtStart (text ++ new) before out (at + n) × (length out ≡ length after)
+put_more {text} {before} {after} {at} new n e w room = rw (← e, copied after new at) (written_more new w (omega arith))
 
 -- the bytes of a line
 pub line_bytes : {l : Line} {text : List ℕ} → Holds l text → length (take l.length l.bytes) ≡ l.length

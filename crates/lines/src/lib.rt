@@ -1,5 +1,6 @@
 // Document 01, "The program": a line for each record of 68 bytes.
 #![tactic(auto)]
+
 ghost use Rattle.std.specs.Prelude.{◌≡◌, ◌+◌, ◌*◌, ◌/◌, ◌≤◌, length};
 ghost use Rattle.lines.specs.Answers.{answer_of, line_of, lines_to, text_of, AtStart};
 ghost use Rattle.lines.specs.Output.{Holds};

@@ -1,10 +1,12 @@
 // Hands sizes to every call that takes one, and prints a line for each size: what each call says of it. What a call refuses later is wrong as well, so that
 // of a good size the next number is told. The file stdout beside src/ was worked out by compare/size_calls.py, not by this program.
 #![tactic(auto)]
+
 use bc4::{Checked, Tiled};
 use cases::{given, show};
 use dds::Written;
 use given::{FARTHEST, NONE};
+use std::io;
 
 // Width and height: each fault together with one that is looked for later, a size without a fault, and the farthest sides.
 const SIZES: [[usize; 2]; 13] = [
@@ -23,67 +25,79 @@ const SIZES: [[usize; 2]; 13] = [
     [FARTHEST, FARTHEST],
 ];
 
-fn tiled(t: Tiled) {
+fn tiled(rt: &impl Print, t: Tiled) -> io::Result<()> {
     match t {
-        Tiled::Refused(q) => show::refused(q),
-        Tiled::Written(n) => show::number(n),
+        Tiled::Refused(q) => show::refused(rt, q),
+        Tiled::Written(n) => show::number(rt, n),
     }
 }
 
-fn said(c: Checked) {
+fn said(rt: &impl Print, c: Checked) -> io::Result<()> {
     match c {
-        Checked::Refused(q) => show::refused(q),
-        Checked::Passed => show::text(b"passed"),
+        Checked::Refused(q) => show::refused(rt, q),
+        Checked::Passed => show::text(rt, "passed"),
     }
 }
 
 // 17 samples, one of them NaN, into four bytes.
-fn tile(width: usize, height: usize) {
+fn tile(rt: &impl Print, width: usize, height: usize) -> io::Result<()> {
     let samples = given::samples(3, NONE);
     let mut out = [0u8; 4];
-    show::text(b": tile ");
-    tiled(bc4::encode_tile(
-        &samples,
-        width,
-        height,
-        given::options(false, false, false),
-        &mut out,
-    ));
+    show::text(rt, ": tile ")?;
+    tiled(
+        rt,
+        bc4::encode_tile(
+            &samples,
+            width,
+            height,
+            given::options(false, false, false),
+            &mut out,
+        ),
+    )
 }
 
 // The same with a malformed word.
-fn tile_by_word(width: usize, height: usize) {
+fn tile_by_word(rt: &impl Print, width: usize, height: usize) -> io::Result<()> {
     let samples = given::samples(3, NONE);
     let mut out = [0u8; 4];
-    show::text(b", by word ");
-    tiled(bc4::word::encode_tile(
-        &samples,
-        width,
-        height,
-        bc4::word::read(0, 0, 3, 0),
-        &mut out,
-    ));
+    show::text(rt, ", by word ")?;
+    tiled(
+        rt,
+        bc4::word::encode_tile(
+            &samples,
+            width,
+            height,
+            bc4::word::read(0, 0, 3, 0),
+            &mut out,
+        ),
+    )
 }
 
 // A block that no tile has, of 17 bytes.
-fn view(width: usize, height: usize) {
+fn view(rt: &impl Print, width: usize, height: usize) -> io::Result<()> {
     let bytes = given::bytes();
-    show::text(b", view ");
-    said(bc4::view_refusal(&bytes, width, height, FARTHEST, FARTHEST));
-    show::text(b" [");
-    show::bytes(bc4::block_view(&bytes, width, height, FARTHEST, FARTHEST));
-    show::text(b"]");
+    show::text(rt, ", view ")?;
+    said(
+        rt,
+        bc4::view_refusal(&bytes, width, height, FARTHEST, FARTHEST),
+    )?;
+    show::text(rt, " [")?;
+    show::bytes(
+        rt,
+        bc4::block_view(&bytes, width, height, FARTHEST, FARTHEST),
+    )?;
+    show::text(rt, "]")
 }
 
 // 17 bytes into four.
-fn write(width: usize, height: usize) {
+fn write(rt: &impl Print, width: usize, height: usize) -> io::Result<()> {
     let bytes = given::bytes();
     let mut out = [0u8; 4];
-    show::text(b", write ");
+    show::text(rt, ", write ")?;
     let answer = dds::write(&bytes, width, height, false, &mut out);
     match answer {
-        Written::Refused(q) => show::refused(q),
-        Written::Bytes(n) => show::number(n),
+        Written::Refused(q) => show::refused(rt, q),
+        Written::Bytes(n) => show::number(rt, n),
     }
 }
 
@@ -98,33 +112,34 @@ fn put(file: &mut [u8; 145], at: usize, side: usize) {
     }
 }
 
-fn found(file: &[u8; 145]) {
-    show::text(b", read ");
-    said(dds::read_refusal(file));
+fn found(rt: &impl Print, file: &[u8; 145]) -> io::Result<()> {
+    show::text(rt, ", read ")?;
+    said(rt, dds::read_refusal(file))
 }
 
 // A file of 8 by 4 with another size, and a byte too many.
-fn read(width: usize, height: usize) {
+fn read(rt: &impl Print, width: usize, height: usize) -> io::Result<()> {
     let mut file = [0u8; 145];
     dds::write(&[0; 16], 8, 4, false, &mut file);
     put(&mut file, 16, width);
     put(&mut file, 12, height);
-    found(&file);
+    found(rt, &file)
 }
 
-fn sized(width: usize, height: usize) {
-    show::size(width, height);
-    tile(width, height);
-    tile_by_word(width, height);
-    view(width, height);
-    write(width, height);
-    read(width, height);
-    show::text(b"\n");
+fn sized(rt: &impl Print, width: usize, height: usize) -> io::Result<()> {
+    show::size(rt, width, height)?;
+    tile(rt, width, height)?;
+    tile_by_word(rt, width, height)?;
+    view(rt, width, height)?;
+    write(rt, width, height)?;
+    read(rt, width, height)?;
+    show::text(rt, "\n")
 }
 
-fn main() {
+fn main(rt: HostRuntime) -> io::Result<()> {
     let sizes = SIZES;
     for k in 0..13usize {
-        sized(sizes[k][0], sizes[k][1]);
+        sized(&rt, sizes[k][0], sizes[k][1])?;
     }
+    Ok(())
 }

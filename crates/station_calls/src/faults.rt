@@ -1,6 +1,7 @@
 // Every refusal alone, and with each that is looked for later: of two the first is told. A fault is a number from 0 to 11 in the order in which they are looked for: a
 // side that is 0, too large or no multiple of 4, the width before the height, the three lengths, the place, and the editions of 16 and 17.
 use crate::shapes;
+use std::io;
 
 fn either(there: bool, wrong: usize, right: usize) -> usize {
     if there {
@@ -43,8 +44,16 @@ fn height(one: usize, other: usize) -> usize {
 }
 
 // A place that is not there reads the entry of one that is.
-fn with(one: usize, other: usize, long: usize, entries: usize, count: usize) {
+fn with(
+    rt: &impl Print,
+    one: usize,
+    other: usize,
+    long: usize,
+    entries: usize,
+    count: usize,
+) -> io::Result<()> {
     shapes::shaped(
+        rt,
         width(one, other),
         height(one, other),
         long,
@@ -53,27 +62,30 @@ fn with(one: usize, other: usize, long: usize, entries: usize, count: usize) {
         1,
         edition(is(10, one, other), is(11, one, other)),
         count,
-    );
+    )
 }
 
-fn both(one: usize, other: usize) {
+fn both(rt: &impl Print, one: usize, other: usize) -> io::Result<()> {
     with(
+        rt,
         one,
         other,
         either(is(6, one, other), 47, 48),
         either(is(7, one, other), 5, 6),
         either(is(8, one, other), 7, 8),
-    );
+    )
 }
 
-fn with_later(one: usize) {
+fn with_later(rt: &impl Print, one: usize) -> io::Result<()> {
     for other in one..12usize {
-        both(one, other);
+        both(rt, one, other)?;
     }
+    Ok(())
 }
 
-pub fn cases() {
+pub fn cases(rt: &impl Print) -> io::Result<()> {
     for one in 0..12usize {
-        with_later(one);
+        with_later(rt, one)?;
     }
+    Ok(())
 }

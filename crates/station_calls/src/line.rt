@@ -1,6 +1,7 @@
 // What a line is made of. A tile is shown by its bytes, a record by its entries, all that was lent and what lies past it.
 use cases::show;
 use station::Received;
+use std::io;
 
 // The bytes of a message by a number, which is their first digit: from 0 to 15 they all are others.
 pub fn eight(number: u8) -> [u8; 8] {
@@ -8,57 +9,71 @@ pub fn eight(number: u8) -> [u8; 8] {
     [b, b + 1, b + 2, b + 3, b + 4, b + 5, b + 6, b + 7]
 }
 
-pub fn received(answer: Received) {
+pub fn received(rt: &impl Print, answer: Received) -> io::Result<()> {
     match answer {
-        Received::Taken => show::text(b"taken"),
-        Received::Repeated => show::text(b"repeated"),
-        Received::Replaced => show::text(b"replaced"),
-        Received::Old => show::text(b"old"),
-        Received::Refused(q) => show::refused(q),
+        Received::Taken => show::text(rt, "taken"),
+        Received::Repeated => show::text(rt, "repeated"),
+        Received::Replaced => show::text(rt, "replaced"),
+        Received::Old => show::text(rt, "old"),
+        Received::Refused(q) => show::refused(rt, q),
     }
 }
 
-fn entry(n: u32) {
-    show::text(b" ");
-    show::number(n as usize);
+fn entry(rt: &impl Print, n: u32) -> io::Result<()> {
+    show::text(rt, " ")?;
+    show::number(rt, n as usize)
 }
 
-pub fn record(entries: &[u32]) {
+pub fn record(rt: &impl Print, entries: &[u32]) -> io::Result<()> {
     for k in 0..entries.len() {
-        entry(entries[k]);
+        entry(rt, entries[k])?;
     }
+    Ok(())
 }
 
 // At the end of a line.
-pub fn held(tile: &[u8], entries: &[u32]) {
-    show::text(b", ");
-    show::bytes(tile);
-    record(entries);
-    show::text(b"\n");
+pub fn held(rt: &impl Print, tile: &[u8], entries: &[u32]) -> io::Result<()> {
+    show::text(rt, ", ")?;
+    show::bytes(rt, tile)?;
+    record(rt, entries)?;
+    show::text(rt, "\n")
 }
 
-fn lengths(width: usize, height: usize, long: usize, entries: usize) {
-    show::size(width, height);
-    show::text(b", ");
-    show::byte_count(long);
-    show::text(b", ");
-    show::number(entries);
-    show::text(b" entries, at ");
+fn lengths(
+    rt: &impl Print,
+    width: usize,
+    height: usize,
+    long: usize,
+    entries: usize,
+) -> io::Result<()> {
+    show::size(rt, width, height)?;
+    show::text(rt, ", ")?;
+    show::byte_count(rt, long)?;
+    show::text(rt, ", ")?;
+    show::number(rt, entries)?;
+    show::text(rt, " entries, at ")
 }
 
-fn message(column: usize, row: usize, edition: u16, block: &[u8]) {
-    show::number(column);
-    show::text(b" ");
-    show::number(row);
-    show::text(b" edition ");
-    show::number(edition as usize);
-    show::text(b" [");
-    show::bytes(block);
-    show::text(b"]: ");
+fn message(
+    rt: &impl Print,
+    column: usize,
+    row: usize,
+    edition: u16,
+    block: &[u8],
+) -> io::Result<()> {
+    show::number(rt, column)?;
+    show::text(rt, " ")?;
+    show::number(rt, row)?;
+    show::text(rt, " edition ")?;
+    show::number(rt, edition as usize)?;
+    show::text(rt, " [")?;
+    show::bytes(rt, block)?;
+    show::text(rt, "]: ")
 }
 
 // A message into the first `long` bytes and the first `entries` entries.
 pub fn receive(
+    rt: &impl Print,
     tile: &mut [u8],
     long: usize,
     record: &mut [u32],
@@ -69,21 +84,25 @@ pub fn receive(
     row: usize,
     edition: u16,
     block: &[u8],
-) {
-    lengths(width, height, long, entries);
-    message(column, row, edition, block);
+) -> io::Result<()> {
+    lengths(rt, width, height, long, entries)?;
+    message(rt, column, row, edition, block)?;
     if long <= tile.len() {
         if entries <= record.len() {
-            received(station::receive(
-                &mut tile[0..long],
-                &mut record[0..entries],
-                width,
-                height,
-                column,
-                row,
-                edition,
-                block,
-            ));
+            received(
+                rt,
+                station::receive(
+                    &mut tile[0..long],
+                    &mut record[0..entries],
+                    width,
+                    height,
+                    column,
+                    row,
+                    edition,
+                    block,
+                ),
+            )?;
         }
     }
+    Ok(())
 }

@@ -1,6 +1,7 @@
 // Hands messages to a station at the edges of every refusal, at every turn of an edition, and in many orders, and prints a line for each case: what is given, what
 // became of it, and the tile and the record after it. The file stdout beside src/ was worked out by compare/station_calls.py, not by this program.
 #![tactic(auto)]
+
 mod clearing;
 mod editions;
 mod faults;
@@ -10,11 +11,13 @@ mod line;
 mod shapes;
 mod six;
 
-fn main() {
-    shapes::cases();
-    faults::cases();
-    editions::cases();
-    histories::cases();
-    clearing::cases();
-    large::cases();
+use std::io;
+
+fn main(rt: HostRuntime) -> io::Result<()> {
+    shapes::cases(&rt)?;
+    faults::cases(&rt)?;
+    editions::cases(&rt)?;
+    histories::cases(&rt)?;
+    clearing::cases(&rt)?;
+    large::cases(&rt)
 }

@@ -2,9 +2,11 @@
 use crate::line;
 use cases::given;
 use given::FARTHEST;
+use std::io;
 
 // Of bytes and entries there is one more than is right.
 pub fn shaped(
+    rt: &impl Print,
     width: usize,
     height: usize,
     long: usize,
@@ -13,12 +15,13 @@ pub fn shaped(
     row: usize,
     edition: u16,
     count: usize,
-) {
+) -> io::Result<()> {
     let mut tile = [0u8; 49];
     given::fill_bytes(&mut tile);
     let mut record = [6u32; 7];
     let bytes = [0xb0u8, 0xb1, 0xb2, 0xb3, 0xb4, 0xb5, 0xb6, 0xb7, 0xb8];
     line::receive(
+        rt,
         &mut tile,
         long,
         &mut record,
@@ -29,95 +32,95 @@ pub fn shaped(
         row,
         edition,
         given::first_bytes(&bytes, count),
-    );
-    line::held(&tile, &record);
+    )?;
+    line::held(rt, &tile, &record)
 }
 
 // All that is looked at later is wrong too.
-fn sized(width: usize, height: usize) {
-    shaped(width, height, 47, 5, FARTHEST, FARTHEST, 5, 7);
+fn sized(rt: &impl Print, width: usize, height: usize) -> io::Result<()> {
+    shaped(rt, width, height, 47, 5, FARTHEST, FARTHEST, 5, 7)
 }
 
-fn near_sizes() {
-    sized(0, 0);
-    sized(6, 0);
-    sized(0, 2000);
-    sized(2000, 0);
-    sized(2000, 6);
-    sized(6, 2000);
-    sized(1026, 4);
-    sized(6, 6);
+fn near_sizes(rt: &impl Print) -> io::Result<()> {
+    sized(rt, 0, 0)?;
+    sized(rt, 6, 0)?;
+    sized(rt, 0, 2000)?;
+    sized(rt, 2000, 0)?;
+    sized(rt, 2000, 6)?;
+    sized(rt, 6, 2000)?;
+    sized(rt, 1026, 4)?;
+    sized(rt, 6, 6)
 }
 
-fn far_sizes() {
-    sized(1024, 1024);
-    sized(1028, 1028);
-    sized(FARTHEST, 4);
-    sized(4, FARTHEST);
-    sized(FARTHEST, FARTHEST);
+fn far_sizes(rt: &impl Print) -> io::Result<()> {
+    sized(rt, 1024, 1024)?;
+    sized(rt, 1028, 1028)?;
+    sized(rt, FARTHEST, 4)?;
+    sized(rt, 4, FARTHEST)?;
+    sized(rt, FARTHEST, FARTHEST)
 }
 
 // Nothing else is wrong: the lengths are those of the size.
-fn sizes_alone() {
-    shaped(0, 12, 0, 0, 0, 0, 6, 8);
-    shaped(8, 0, 0, 0, 0, 0, 6, 8);
-    shaped(6, 12, 36, 4, 0, 0, 6, 8);
-    shaped(8, 6, 24, 3, 0, 0, 6, 8);
-    shaped(8, 12, 48, 6, 0, 0, 6, 8);
-    shaped(12, 8, 48, 6, 2, 1, 6, 8);
+fn sizes_alone(rt: &impl Print) -> io::Result<()> {
+    shaped(rt, 0, 12, 0, 0, 0, 0, 6, 8)?;
+    shaped(rt, 8, 0, 0, 0, 0, 0, 6, 8)?;
+    shaped(rt, 6, 12, 36, 4, 0, 0, 6, 8)?;
+    shaped(rt, 8, 6, 24, 3, 0, 0, 6, 8)?;
+    shaped(rt, 8, 12, 48, 6, 0, 0, 6, 8)?;
+    shaped(rt, 12, 8, 48, 6, 2, 1, 6, 8)
 }
 
-fn long(tile: usize, record: usize, message: usize) {
-    shaped(8, 12, tile, record, 1, 2, 6, message);
+fn long(rt: &impl Print, tile: usize, record: usize, message: usize) -> io::Result<()> {
+    shaped(rt, 8, 12, tile, record, 1, 2, 6, message)
 }
 
-fn tile_lengths() {
-    long(0, 6, 8);
-    long(6, 6, 8);
-    long(47, 6, 8);
-    long(48, 6, 8);
-    long(49, 6, 8);
+fn tile_lengths(rt: &impl Print) -> io::Result<()> {
+    long(rt, 0, 6, 8)?;
+    long(rt, 6, 6, 8)?;
+    long(rt, 47, 6, 8)?;
+    long(rt, 48, 6, 8)?;
+    long(rt, 49, 6, 8)
 }
 
-fn other_lengths() {
-    long(48, 0, 8);
-    long(48, 5, 8);
-    long(48, 7, 8);
-    long(48, 6, 0);
-    long(48, 6, 7);
-    long(48, 6, 9);
+fn other_lengths(rt: &impl Print) -> io::Result<()> {
+    long(rt, 48, 0, 8)?;
+    long(rt, 48, 5, 8)?;
+    long(rt, 48, 7, 8)?;
+    long(rt, 48, 6, 0)?;
+    long(rt, 48, 6, 7)?;
+    long(rt, 48, 6, 9)
 }
 
-fn placed(column: usize, row: usize) {
-    shaped(8, 12, 48, 6, column, row, 6, 8);
+fn placed(rt: &impl Print, column: usize, row: usize) -> io::Result<()> {
+    shaped(rt, 8, 12, 48, 6, column, row, 6, 8)
 }
 
-fn places() {
-    placed(0, 0);
-    placed(1, 0);
-    placed(0, 2);
-    placed(1, 2);
-    placed(2, 0);
-    placed(0, 3);
-    placed(2, 2);
-    placed(1, 3);
+fn places(rt: &impl Print) -> io::Result<()> {
+    placed(rt, 0, 0)?;
+    placed(rt, 1, 0)?;
+    placed(rt, 0, 2)?;
+    placed(rt, 1, 2)?;
+    placed(rt, 2, 0)?;
+    placed(rt, 0, 3)?;
+    placed(rt, 2, 2)?;
+    placed(rt, 1, 3)
 }
 
 // The last two would be the first place where products and sums wrap.
-fn far_places() {
-    placed(FARTHEST, 0);
-    placed(0, FARTHEST);
-    placed(FARTHEST, FARTHEST);
-    placed(0, 0x8000_0000_0000_0000);
-    placed(0xffff_ffff_ffff_fffe, 1);
+fn far_places(rt: &impl Print) -> io::Result<()> {
+    placed(rt, FARTHEST, 0)?;
+    placed(rt, 0, FARTHEST)?;
+    placed(rt, FARTHEST, FARTHEST)?;
+    placed(rt, 0, 0x8000_0000_0000_0000)?;
+    placed(rt, 0xffff_ffff_ffff_fffe, 1)
 }
 
-pub fn cases() {
-    near_sizes();
-    far_sizes();
-    sizes_alone();
-    tile_lengths();
-    other_lengths();
-    places();
-    far_places();
+pub fn cases(rt: &impl Print) -> io::Result<()> {
+    near_sizes(rt)?;
+    far_sizes(rt)?;
+    sizes_alone(rt)?;
+    tile_lengths(rt)?;
+    other_lengths(rt)?;
+    places(rt)?;
+    far_places(rt)
 }

@@ -5,7 +5,6 @@ use native.Mathlib.Numerals.{add-one}
 use native.Mathlib.Omega.{arith}
 use lib.ListN.{length, take, length-take, length-drop}
 use Rattle.lines.specs.Answers.{answer_of, line_of, record_at, lines_to, AtStart}
-use Rattle.lines.proofs.Laws.{copied, written_more, line_bytes}
 use Rattle.lines.proofs.lines.Given as goal
 
 abbrev pub invariant-loop-i : goal.invariant-loop-i

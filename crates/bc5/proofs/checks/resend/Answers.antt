@@ -1,0 +1,23 @@
+use borrow.Author.Tests.{eq-eqb, ne_eqb}
+use Rattle.refusal.specs.Refusals.{first_of}
+use Rattle.bc5.proofs.checks.resend.Goals as goal
+
+pub returns-then-first-ne16 : goal.returns-then-first-ne16
+unfolding first_of
+returns-then-first-ne16 c = rw (ne_eqb _ _ c.if-first-ne16.true)
+
+pub returns-then-second-ne16 : goal.returns-then-second-ne16
+unfolding first_of
+returns-then-second-ne16 c = rw (eq-eqb _ _ c.if-first-ne16.false, ne_eqb _ _ c.if-second-ne16.true)
+
+pub returns-then-held-ne-BC5_SIZE : goal.returns-then-held-ne-BC5_SIZE
+unfolding first_of
+returns-then-held-ne-BC5_SIZE c = rw (eq-eqb _ _ c.if-first-ne16.false, eq-eqb _ _ c.if-second-ne16.false, ne_eqb _ _ c.if-held-ne-BC5_SIZE.true)
+
+pub returns-then-o : goal.returns-then-o
+unfolding first_of
+returns-then-o c = rw (eq-eqb _ _ c.if-first-ne16.false, eq-eqb _ _ c.if-second-ne16.false, eq-eqb _ _ c.if-held-ne-BC5_SIZE.false, c.if-o.true)
+
+pub returns : goal.returns
+unfolding first_of
+returns c = rw (eq-eqb _ _ c.if-first-ne16.false, eq-eqb _ _ c.if-second-ne16.false, eq-eqb _ _ c.if-held-ne-BC5_SIZE.false, c.if-o.false) c.no_nans.ensures

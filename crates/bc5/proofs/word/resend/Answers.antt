@@ -1,0 +1,13 @@
+use Rattle.refusal.proofs.Firsts.{word_last}
+use Rattle.bc5.specs.Checks.{resend_checks}
+use Rattle.bc5.proofs.word.resend.Goals as goal
+
+pub returns-then-w : goal.returns-then-w
+returns-then-w c =
+    let a = c.args in
+    rw (word_last (resend_checks a.first.now a.second.now a.held.now a.w.options) _, c.if-w.true, c.or_malformed.ensures, c.resend-checked.ensures)
+
+pub returns : goal.returns
+returns c =
+    let a = c.args in
+    rw (word_last (resend_checks a.first.now a.second.now a.held.now a.w.options) _, c.if-w.false) c.resend.ensures

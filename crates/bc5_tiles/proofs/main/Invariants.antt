@@ -1,6 +1,0 @@
--- `bc5_tiles::main` is safe and ends.
-use Prim.Native.Nat.{◌-◌, ◌≤◌}
-use Rattle.bc5_tiles.proofs.main.Given as goal
-
-abbrev pub invariant-loop-k : goal.invariant-loop-k
-invariant-loop-k l = l.k ≤ 105
