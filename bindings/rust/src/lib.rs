@@ -1,7 +1,7 @@
 //! Safe calls of the proved BC4 block codec: sixteen samples in eight bytes, and DDS files of such blocks. [`bc5`] has the calls on two channels,
 //! [`station`] those of the receiving side.
 //!
-//! The codec is the static library that `rt staticlib exports` writes, for x86-64 Linux. A build has to be told where it stands, and nothing else:
+//! The codec is the static library that `tools/prove staticlib exports` writes, for x86-64 Linux. A build has to be told where it stands, and nothing else:
 //!
 //! ```text
 //! RUSTFLAGS="-L native=REPOSITORY/target/staticlib" cargo build

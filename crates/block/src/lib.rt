@@ -1,5 +1,6 @@
 // bc4.rs: Block. The Rust's four Vec4 are sixteen floats here, pixel i in lane i % 4: a loop over them vectorises.
 #![tactic(auto)]
+
 ghost use Rattle.std.specs.Prelude.{◌≡◌, ◌<◌};
 ghost use Rattle.floats.specs.Arithmetic.{◌⊕◌, squared, f0, f1};
 ghost use Rattle.block.specs.Samples.{pixel_at};

@@ -1,4 +1,3 @@
-use mathlib.Core.Path.{refl}
 use Rattle.refusal.proofs.Firsts.{passed_clear, same_of}
 use Rattle.bc4.proofs.decode_block.Goals as goal
 

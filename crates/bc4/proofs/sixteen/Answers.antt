@@ -1,6 +1,5 @@
 -- `sixteen` meets its contract: the one block of a tile of width 4.
 use mathlib.Core.Path.{◌∙◌}
-use native.Mathlib.Omega.{arith}
 use Rattle.place.proofs.Samples.{block_of_whole}
 use Rattle.bc4.proofs.sixteen.Goals as goal
 

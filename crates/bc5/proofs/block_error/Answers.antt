@@ -4,9 +4,8 @@ use native.Mathlib.Omega.{arith}
 use lib.ListN.{length}
 use Rattle.place.specs.Place.{bc5_size}
 use Rattle.place.proofs.Samples.{block_of_whole}
-use Rattle.refusal.specs.declared.Checked.TheVariants.{Passed}
-use Rattle.refusal.specs.Refusals.{first_of, length_check}
-use Rattle.bc5.specs.Checks.{nan_checks, error_checks}
+use Rattle.refusal.specs.Refusals.{length_check}
+use Rattle.bc5.specs.Checks.{nan_checks}
 use Rattle.bc5.proofs.Counts.{BothSixteen, both_sixteen, bytes_sixteen}
 use Rattle.std.proofs.Common.{rules}
 use Rattle.bc5.proofs.block_error.Goals as goal

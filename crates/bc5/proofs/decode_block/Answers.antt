@@ -1,4 +1,4 @@
-use mathlib.Core.Path.{◌≡◌, refl}
+use mathlib.Core.Path.{◌≡◌}
 use lib.ListN.{length}
 use Rattle.place.specs.Place.{bc5_size}
 use Rattle.refusal.proofs.Firsts.{passed_clear, same_of}

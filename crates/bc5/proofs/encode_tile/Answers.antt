@@ -1,4 +1,4 @@
-use mathlib.Core.Path.{refl, sym, ◌∙◌}
+use mathlib.Core.Path.{sym, ◌∙◌}
 use lib.ListN.{length}
 use Rattle.place.proofs.Places.{size_small}
 use Rattle.bc5.proofs.Counts.{Channels, tile_passed}

@@ -1,11 +1,7 @@
 -- `dds::body` meets its contract: the part from where the body starts, which stands within the file.
 use mathlib.Core.Path.{sym, ◌∙◌}
-use Prim.Native.Nat.{◌-◌, ◌≤◌}
-use native.Mathlib.Omega.{arith}
-use lib.ListN.{drop, length-drop}
-use lib.Seq.{take_all}
+use Prim.Native.Nat.{◌≤◌}
 use lib.ListN.{length}
-use Rattle.dds.specs.Layout.{Whole}
 use Rattle.dds.proofs.Headers.{read_whole, body_within}
 use Rattle.std.proofs.Common.{rules}
 use Rattle.dds.proofs.body.Goals as goal

@@ -1,12 +1,11 @@
 -- `dds::write` meets its contract: the header, and then the tile after it.
-use mathlib.Core.Path.{refl, sym, ◌∙◌}
+use mathlib.Core.Path.{sym, ◌∙◌}
 use Prim.Native.Nat.{◌+◌, ◌≤◌}
 use native.Mathlib.Omega.{arith}
-use lib.ListN.{length, length-take, length-drop}
-use Rattle.place.proofs.Joined.{all_copied}
+use lib.ListN.{length}
 use Rattle.dds.specs.Layout.{header_length, header_of}
 use Rattle.dds.proofs.Files.{header_length_lem, tile_put}
-use Rattle.dds.proofs.Room.{Room, room as write_room}
+use Rattle.dds.proofs.Room.{room as write_room}
 use Rattle.std.proofs.Common.{rules}
 use Rattle.dds.proofs.write.Goals as goal
 

@@ -1,11 +1,9 @@
-use mathlib.Core.Path.{◌≡◌, sym, ◌∙◌}
+use mathlib.Core.Path.{sym, ◌∙◌}
 use borrow.Author.Tests.{lt-ltb, le-ltb}
-use Rattle.place.specs.Place.{bc4_size}
 use Rattle.place.proofs.Places.{size_small}
-use Rattle.refusal.specs.declared.Checked.TheVariants.{Passed}
 use Rattle.refusal.specs.Refusals.{first_of, bytes_checks}
 use Rattle.refusal.proofs.Firsts.{refused_before, passed_before}
-use Rattle.refusal.proofs.Tiles.{Bytes, bytes_passed}
+use Rattle.refusal.proofs.Tiles.{bytes_passed}
 use Rattle.std.proofs.Common.{rules}
 use Rattle.dds.proofs.write_refusal.Goals as goal
 

@@ -1,13 +1,10 @@
-use mathlib.Core.Path.{refl}
 use mathlib.Core.List.{[], ◌∷◌}
-use Prim.Native.Nat.{ℕ, ◌-◌}
-use native.Mathlib.Omega.{arith}
+use Prim.Native.Nat.{ℕ}
 use lib.ListN.{get_or}
 use lib.Ieee.{Float, nan}
 use mathlib.Core.Bool.{Bool}
 use Rattle.values.specs.Values.{level_value}
-use Rattle.block.specs.Samples.{tabulate}
-use Rattle.block.proofs.Fill.{Filled, fill_start, fill_step, fill_end}
+use Rattle.block.proofs.Fill.{Filled}
 use Rattle.decode.proofs.end_values.Given as goal
 
 abbrev pub valueOfTwo : ℕ → ℕ → Bool → ℕ → Float

@@ -1,6 +1,4 @@
-use mathlib.Core.Path.{◌≡◌, refl}
-use Prim.Native.Nat.{◌≤◌, ◌-◌}
-use native.Mathlib.Omega.{arith}
+use mathlib.Core.Path.{refl}
 use Rattle.decode.specs.BlockError.{error_to}
 use Rattle.decode.proofs.Laws.{error_to_more}
 use Rattle.std.proofs.Common.{rules}

@@ -1,9 +1,5 @@
-use mathlib.Core.Path.{refl}
-use Prim.Native.Nat.{◌-◌}
 use native.Mathlib.Omega.{arith}
-use lib.Ieee.{nan}
-use Rattle.block.proofs.Fill.{Filled, fill_start, fill_step, fill_end}
-use Rattle.decode.specs.Meaning.{picked}
+use Rattle.block.proofs.Fill.{fill_end}
 use Rattle.decode.proofs.look_up.Goals as goal
 
 pub returns : goal.returns

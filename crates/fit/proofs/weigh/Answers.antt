@@ -1,13 +1,8 @@
 use mathlib.Core.Path.{◌≡◌, refl}
-use mathlib.Core.List.{List}
-use Prim.Native.Nat.{ℕ, ◌-◌}
 use native.Mathlib.Numerals.{add-one}
 use native.Mathlib.Omega.{arith}
-use lib.Ieee.{Float, nan}
-use Rattle.block.proofs.Fill.{Filled, fill_start, fill_step, fill_end}
-use Rattle.palette.specs.declared.inter6.Inter6Palette.{Inter6Palette}
-use Rattle.fit.specs.declared.Lane.{Lane}
-use Rattle.fit.specs.Lanes.{lane_at, above_to, weighed}
+use Rattle.block.proofs.Fill.{fill_start, fill_step, fill_end}
+use Rattle.fit.specs.Lanes.{above_to, weighed}
 use Rattle.fit.proofs.weigh.Goals as goal
 
 pub loop-j-init : goal.loop-j-init

@@ -1,13 +1,11 @@
-use mathlib.Core.Path.{◌≡◌, refl}
+use mathlib.Core.Path.{◌≡◌}
 use mathlib.Core.List.{List}
-use Prim.Native.Nat.{ℕ, ◌-◌}
-use native.Mathlib.Numerals.{add-one}
-use native.Mathlib.Omega.{arith}
+use Prim.Native.Nat.{ℕ}
 use lib.Ieee.{Float, nan}
-use Rattle.block.proofs.Fill.{Filled, fill_start, fill_step, fill_end}
+use Rattle.block.proofs.Fill.{Filled}
 use Rattle.palette.specs.declared.inter6.Inter6Palette.{Inter6Palette}
 use Rattle.fit.specs.declared.Lane.{Lane}
-use Rattle.fit.specs.Lanes.{lane_at, above_to, weighed}
+use Rattle.fit.specs.Lanes.{lane_at, above_to}
 use Rattle.fit.proofs.weigh.Given as goal
 
 -- what each of the first j lanes has there

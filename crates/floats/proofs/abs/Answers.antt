@@ -1,4 +1,3 @@
-use Rattle.std.proofs.Common.{rules}
 use Rattle.floats.proofs.Distances.{abs_is}
 use Rattle.floats.proofs.abs.Goals as goal
 

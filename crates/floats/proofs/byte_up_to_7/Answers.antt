@@ -1,4 +1,4 @@
-use Rattle.std.proofs.Common.{refl, arith, rules}
+use Rattle.std.proofs.Common.{refl, arith}
 use Prim.{tt}
 use Rattle.floats.proofs.Casts.{up_to_7_le, up_to_7_back, up_to_7_read}
 use Rattle.floats.proofs.byte_up_to_7.Goals as goal

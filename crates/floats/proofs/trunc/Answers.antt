@@ -1,5 +1,4 @@
 use Rattle.floats.proofs.WholePart.{trunc_is}
-use Rattle.std.proofs.Common.{rules}
 use Rattle.floats.proofs.trunc.Goals as goal
 
 pub returns : goal.returns

@@ -1,4 +1,4 @@
-use Rattle.std.proofs.Common.{ap, ◌∙◌, rules}
+use Rattle.std.proofs.Common.{ap, ◌∙◌}
 use Rattle.floats.specs.Arithmetic.{whole}
 use Rattle.floats.proofs.Casts.{kept_is}
 use Rattle.floats.proofs.up_to_7.Goals as goal

@@ -1,4 +1,3 @@
-use Rattle.std.proofs.Common.{rules}
 use Rattle.floats.proofs.NearWhole.{whole_part_is}
 use Rattle.floats.proofs.whole_part.Goals as goal
 

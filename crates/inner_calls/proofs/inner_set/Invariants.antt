@@ -1,10 +1,7 @@
-use mathlib.Core.Path.{◌≡◌, ap, ◌∙◌}
-use Prim.Native.Nat.{ℕ, ◌-◌, ◌%◌, ◌≤◌}
-use native.Mathlib.Numerals.{add-one}
-use native.Mathlib.Omega.{arith}
+use mathlib.Core.Path.{◌≡◌}
+use Prim.Native.Nat.{ℕ, ◌%◌, ◌≤◌}
 use lib.ListN.{get_or}
 use Rattle.index_list.specs.Indexes.{filled_to}
-use Rattle.index_list.proofs.Laws.{filled_unset}
 use Rattle.inner_calls.proofs.inner_set.Given as goal
 
 abbrev pub invariant-loop-i : goal.invariant-loop-i

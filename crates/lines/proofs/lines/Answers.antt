@@ -1,10 +1,10 @@
 -- `lines::lines` meets its contract: after i turns the lines of the first i records stand at the start of `out`.
-use mathlib.Core.Path.{◌≡◌, refl, sym, ◌∙◌}
-use Prim.Native.Nat.{◌/◌, ◌+◌, ◌*◌, ◌-◌, ◌≤◌}
+use mathlib.Core.Path.{◌≡◌, refl, ◌∙◌}
+use Prim.Native.Nat.{◌+◌, ◌*◌, ◌-◌}
 use native.Mathlib.Numerals.{add-one}
 use native.Mathlib.Omega.{arith}
-use lib.ListN.{length, take, length-take, length-drop}
-use Rattle.lines.specs.Answers.{answer_of, line_of, record_at, lines_to, AtStart}
+use lib.ListN.{length, take}
+use Rattle.lines.specs.Answers.{answer_of, line_of, record_at, lines_to}
 use Rattle.lines.proofs.Laws.{put_more, line_bytes}
 use Rattle.std.proofs.Common.{rules}
 use Rattle.lines.proofs.lines.Goals as goal

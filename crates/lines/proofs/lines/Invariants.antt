@@ -1,10 +1,8 @@
 -- `lines::lines` meets its contract: after i turns the lines of the first i records stand at the start of `out`.
-use mathlib.Core.Path.{◌≡◌, refl, sym, ◌∙◌}
-use Prim.Native.Nat.{◌/◌, ◌+◌, ◌*◌, ◌-◌, ◌≤◌}
-use native.Mathlib.Numerals.{add-one}
-use native.Mathlib.Omega.{arith}
-use lib.ListN.{length, take, length-take, length-drop}
-use Rattle.lines.specs.Answers.{answer_of, line_of, record_at, lines_to, AtStart}
+use mathlib.Core.Path.{◌≡◌}
+use Prim.Native.Nat.{◌/◌, ◌*◌, ◌≤◌}
+use lib.ListN.{length}
+use Rattle.lines.specs.Answers.{lines_to, AtStart}
 use Rattle.lines.proofs.lines.Given as goal
 
 abbrev pub invariant-loop-i : goal.invariant-loop-i

@@ -2,7 +2,7 @@
 use mathlib.Core.List.{append-nil}
 use Prim.Native.Nat.{◌/◌}
 use native.Mathlib.Omega.{arith}
-use lib.ListN.{length, length-take, length-drop}
+use lib.ListN.{length}
 use Rattle.lines.specs.Output.{short_line}
 use Rattle.lines.specs.Answers.{text_of}
 use Rattle.lines.proofs.Laws.{put_more, lines_room}

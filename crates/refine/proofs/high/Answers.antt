@@ -1,6 +1,4 @@
-use mathlib.Core.Path.{◌≡◌, sym}
-use Prim.Native.Nat.{◌≤◌, ◌-◌}
-use native.Mathlib.Omega.{arith}
+use mathlib.Core.Path.{sym}
 use Rattle.refine.specs.Refining.{high_to}
 use Rattle.refine.proofs.Rounding.{high_more}
 use Rattle.std.proofs.Common.{rules}

@@ -1,8 +1,6 @@
-use mathlib.Core.Path.{◌≡◌, sym}
-use Prim.Native.Nat.{◌≤◌, ◌-◌}
-use native.Mathlib.Omega.{arith}
+use mathlib.Core.Path.{◌≡◌}
+use Prim.Native.Nat.{◌≤◌}
 use Rattle.refine.specs.Refining.{high_to}
-use Rattle.refine.proofs.Rounding.{high_more}
 use Rattle.refine.proofs.high.Given as goal
 
 abbrev pub invariant-loop-i : goal.invariant-loop-i

@@ -1,9 +1,7 @@
-use mathlib.Core.Path.{◌≡◌, sym, ◌∙◌}
+use mathlib.Core.Path.{sym, ◌∙◌}
 use mathlib.Core.Bool.{false}
 use borrow.Author.Tests.{eq-eqb, ne_eqb, lt-ltb, le-ltb}
-use Rattle.place.specs.Place.{bad_size}
 use Rattle.place.proofs.Places.{size_good, size_small}
-use Rattle.refusal.specs.declared.Checked.TheVariants.{Passed}
 use Rattle.refusal.specs.Refusals.{first_of, size_checks}
 use Rattle.refusal.proofs.Firsts.{refused_before, passed_before}
 use Rattle.refusal.proofs.Sizes.{size_passed}

@@ -1,7 +1,5 @@
-use mathlib.Core.Path.{◌≡◌, sym}
-use Prim.Native.Nat.{◌≤◌, ◌-◌}
+use mathlib.Core.Path.{sym}
 use native.Mathlib.Omega.{arith}
-use Rattle.search.specs.Search.{maxes_tried}
 use Rattle.search.proofs.Steps.{maxes_none, maxes_more}
 use Rattle.std.proofs.Common.{rules}
 use Rattle.search.proofs.maxes_tried.Goals as goal

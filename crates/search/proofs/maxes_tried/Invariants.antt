@@ -1,8 +1,6 @@
-use mathlib.Core.Path.{◌≡◌, sym}
+use mathlib.Core.Path.{◌≡◌}
 use Prim.Native.Nat.{◌≤◌, ◌-◌}
-use native.Mathlib.Omega.{arith}
 use Rattle.search.specs.Search.{maxes_tried}
-use Rattle.search.proofs.Steps.{maxes_none, maxes_more}
 use Rattle.search.proofs.maxes_tried.Given as goal
 
 abbrev pub invariant-loop-max : goal.invariant-loop-max

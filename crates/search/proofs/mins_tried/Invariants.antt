@@ -1,8 +1,6 @@
-use mathlib.Core.Path.{◌≡◌, refl, sym}
-use Prim.Native.Nat.{◌≤◌, ◌-◌, ◌+◌}
-use native.Mathlib.Omega.{arith}
+use mathlib.Core.Path.{◌≡◌}
+use Prim.Native.Nat.{◌≤◌}
 use Rattle.search.specs.Search.{mins_tried}
-use Rattle.search.proofs.Steps.{mins_more}
 use Rattle.search.proofs.mins_tried.Given as goal
 
 abbrev pub invariant-loop-min : goal.invariant-loop-min

@@ -1,5 +1,5 @@
 use mathlib.Core.Path.{refl}
-use mathlib.Core.Logic.{inl, inr}
+use mathlib.Core.Logic.{inl}
 use Rattle.std.proofs.Common.{rules}
 use Rattle.search.proofs.start_error.Goals as goal
 

@@ -1,15 +1,12 @@
 -- `station::receive` meets its contract: what its place holds answers the message, and takes it where it is news.
-use mathlib.Core.Path.{◌≡◌, refl, sym, ◌∙◌}
-use Prim.Native.Nat.{◌+◌, ◌-◌, ◌*◌, ◌<◌, ◌≤◌}
+use mathlib.Core.Path.{◌≡◌, sym, ◌∙◌}
+use Prim.Native.Nat.{◌+◌, ◌-◌}
 use native.Mathlib.Omega.{arith}
-use lib.ListN.{length, length-take, length-drop}
-use Rattle.place.specs.Place.{longest_side, bc4_size}
-use Rattle.refusal.specs.declared.Checked.TheVariants.{Passed}
-use Rattle.refusal.specs.Refusals.{first_of}
+use lib.ListN.{length-take, length-drop}
+use Rattle.place.specs.Place.{bc4_size}
 use Rattle.refusal.proofs.Firsts.{refused_before, passed_before}
-use Rattle.station.specs.Editions.{message, holding}
-use Rattle.station.specs.Receiving.{shape_checks, receive_answer}
-use Rattle.station.proofs.Room.{Room, room as message_room}
+use Rattle.station.specs.Receiving.{shape_checks}
+use Rattle.station.proofs.Room.{room as message_room}
 use Rattle.station.proofs.receive.Goals as goal
 
 pub block_at-at-requires : goal.block_at-at-requires

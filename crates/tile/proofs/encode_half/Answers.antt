@@ -1,11 +1,9 @@
 use mathlib.Core.Path.{◌≡◌, ◌∙◌, ap}
 use Prim.Native.Nat.{◌+◌, ◌-◌}
 use native.Mathlib.Omega.{arith}
-use lib.ListN.{length-take, length-drop}
 use Rattle.index_list.specs.Layout.{bytes_of}
 use Rattle.encode.specs.Encoder.{compressed}
 use Rattle.place.specs.Place.{bc4_size}
-use Rattle.place.proofs.Joined.{all_copied}
 use Rattle.tile.specs.Tile.{laid_in}
 use Rattle.tile.proofs.encode_half.Goals as goal
 

@@ -1,17 +1,11 @@
 -- `encode_stretch` meets its contract: the channel of each block goes to its place in the stretch.
-use mathlib.Core.Path.{◌≡◌, refl, sym, ap, ◌∙◌}
-use mathlib.Core.List.{List, append-nil}
-use Prim.Native.Nat.{ℕ, ◌+◌, ◌*◌, ◌-◌, ◌≤◌}
-use native.Mathlib.Nat.{mul-le-mul}
-use native.Mathlib.Omega.{arith}
-use lib.ListN.{length, take, drop, length-take, length-drop, drop_of_length-le}
+use mathlib.Core.List.{List}
+use Prim.Native.Nat.{ℕ, ◌*◌, ◌≤◌}
 use lib.Ieee.{Float}
 use Rattle.options.specs.declared.Options.{Options}
-use Rattle.place.specs.Place.{along, bc5_size, block_at}
-use Rattle.place.proofs.Places.{fits, first_row}
-use Rattle.place.proofs.Joined.{Grown, grown_start, grown_rest, grown_step}
+use Rattle.place.specs.Place.{along}
+use Rattle.place.proofs.Joined.{Grown}
 use Rattle.tile.specs.Tile.{block_bytes, block_in, laid_in}
-use Rattle.tile.proofs.Blocks.{block_inside, laid_in_length}
 use Rattle.tile.proofs.encode_stretch.Given as goal
 
 -- block k of the stretch once its channel is in it

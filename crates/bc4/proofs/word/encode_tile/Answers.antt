@@ -1,4 +1,3 @@
-use mathlib.Core.Path.{refl}
 use lib.ListN.{length}
 use Rattle.refusal.specs.Refusals.{tile_checks}
 use Rattle.refusal.proofs.Firsts.{word_last}

@@ -1,4 +1,3 @@
-use mathlib.Core.Path.{refl}
 use lib.ListN.{length}
 use Rattle.refusal.proofs.Firsts.{word_last}
 use Rattle.bc5.specs.Checks.{tile_checks}

@@ -1,7 +1,5 @@
 use mathlib.Core.Path.{sym}
-use Prim.Native.Nat.{◌%◌}
-use native.Mathlib.Omega.{arith}
-use borrow.Author.Tests.{ltb-true, lt-ltb, le-ltb}
+use borrow.Author.Tests.{lt-ltb, le-ltb}
 use Rattle.bcn_util.proofs.DitherLaws.{diffused_above, diffused_last}
 use Rattle.bcn_util.proofs.dither.diffuse.Goals as goal
 

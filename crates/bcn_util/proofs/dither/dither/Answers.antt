@@ -1,11 +1,9 @@
-use mathlib.Core.Path.{◌≡◌, refl}
-use native.Mathlib.Omega.{arith}
-use Prim.Native.Nat.{◌≤◌, ◌-◌}
+use mathlib.Core.Path.{refl}
 use Rattle.block.specs.Samples.{tabulate}
 use Rattle.palette.proofs.ClosestLaws.{closest6_lt, closest4_lt, closest6_squared}
 use Rattle.bcn_util.specs.Diffusion.{weights}
 use Rattle.bcn_util.specs.Dither.{dither_to}
-use Rattle.bcn_util.proofs.DitherLaws.{Reached, reached_unset, reached_step}
+use Rattle.bcn_util.proofs.DitherLaws.{reached_unset, reached_step}
 use Rattle.std.proofs.Common.{rules}
 use Rattle.bcn_util.proofs.dither.dither.Goals as goal
 use Rattle.bcn_util.proofs.dither.dither.Goals.{in-Six, in-Four}
@@ -33,9 +31,9 @@ loop-i-preserved c =
     let step = reached_step c.loop-i.invariant.1 in (
       search rules,
       elim c.match-kind.branch [
-        in-Six w ↦ rw (w.map-is, w.list-is, w.total-is, w.diffuse.ensures, w.set-list.ensures, c.asked-pixel.ensures)
+        | in-Six w ↦ rw (w.map-is, w.list-is, w.total-is, w.diffuse.ensures, w.set-list.ensures, c.asked-pixel.ensures)
             (step w.closest-c.result _ (rw (w.closest-c.ensures, c.asked-pixel.ensures, c.new-six.ensures, w.in-Six.is)) (rw (w.closest-c.ensures, c.asked-pixel.ensures) (closest6_squared _ _)))
-      | in-Four w ↦ rw (w.map-is, w.list-is, w.total-is, w.diffuse-in-Four.ensures, w.set-list-in-Four.ensures, c.asked-pixel.ensures)
+        | in-Four w ↦ rw (w.map-is, w.list-is, w.total-is, w.diffuse-in-Four.ensures, w.set-list-in-Four.ensures, c.asked-pixel.ensures)
             (step w.closest-c-in-Four.result _ (rw (w.closest-c-in-Four.ensures, c.asked-pixel.ensures, c.new-four.ensures, w.in-Four.is)) refl)
       ],
     )

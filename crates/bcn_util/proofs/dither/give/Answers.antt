@@ -1,4 +1,3 @@
-use native.Mathlib.Omega.{arith}
 use Rattle.bcn_util.specs.Diffusion.{given}
 use Rattle.bcn_util.proofs.dither.give.Goals as goal
 

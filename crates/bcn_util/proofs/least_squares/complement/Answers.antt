@@ -1,10 +1,5 @@
-use mathlib.Core.Path.{refl}
-use Prim.Native.Nat.{ℕ, ◌-◌}
 use native.Mathlib.Omega.{arith}
-use lib.Ieee.{nan}
-use Rattle.block.specs.Samples.{pixel_at}
-use Rattle.block.proofs.Fill.{Filled, fill_start, fill_step, fill_end}
-use Rattle.floats.specs.Arithmetic.{◌⊖◌, f1}
+use Rattle.block.proofs.Fill.{fill_end}
 use Rattle.bcn_util.specs.LeastSquares.{complement}
 use Rattle.bcn_util.proofs.least_squares.complement.Goals as goal
 

@@ -1,11 +1,8 @@
-use mathlib.Core.Path.{refl}
-use Prim.Native.Nat.{ℕ, ◌-◌}
-use native.Mathlib.Omega.{arith}
+use Prim.Native.Nat.{ℕ}
 use lib.Ieee.{nan}
 use Rattle.block.specs.Samples.{pixel_at}
-use Rattle.block.proofs.Fill.{Filled, fill_start, fill_step, fill_end}
+use Rattle.block.proofs.Fill.{Filled}
 use Rattle.floats.specs.Arithmetic.{◌⊕◌, ◌⊗◌}
-use Rattle.bcn_util.specs.LeastSquares.{line}
 use Rattle.bcn_util.proofs.least_squares.line.Given as goal
 
 abbrev pub invariant-loop-i : goal.invariant-loop-i

@@ -1,9 +1,6 @@
 use Prim.Native.Nat.{◌≤◌}
-use mathlib.Core.Path.{◌≡◌, refl, sym, ◌∙◌}
-use native.Mathlib.Omega.{arith}
-use borrow.Author.Tests.{not-true, not-false}
+use mathlib.Core.Path.{◌≡◌}
 use Rattle.compress.specs.Inter4.{walked}
-use Rattle.compress.proofs.Places.{walked_step, walked_met, walked_failed, walked_none}
 use Rattle.compress.proofs.inter4.walked.Given as goal
 
 abbrev pub invariant-loop-left : goal.invariant-loop-left

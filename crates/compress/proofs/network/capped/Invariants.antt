@@ -1,15 +1,10 @@
-use mathlib.Core.Path.{refl}
-use Prim.Native.Nat.{ℕ, ◌-◌, ◌<◌}
-use native.Mathlib.Omega.{arith}
+use Prim.Native.Nat.{ℕ, ◌<◌}
 use lib.Dec.{T}
 use lib.Ieee.{nan, binary32, fits}
-use borrow.Author.Count.{below_more}
-use Rattle.floats.proofs.Tests.{so}
 use Rattle.floats.specs.Arithmetic.{f2}
 use Rattle.floats.specs.Helpers.{lane_min}
 use Rattle.block.specs.Samples.{pixel_at}
-use Rattle.block.proofs.Fill.{Filled, fill_start, fill_step, fill_end, get_d_tabulate}
-use Rattle.compress.specs.Network.{capped}
+use Rattle.block.proofs.Fill.{Filled}
 use Rattle.compress.proofs.network.capped.Given as goal
 
 abbrev pub invariant-loop-i : goal.invariant-loop-i

@@ -1,11 +1,6 @@
-use mathlib.Core.Logic.{⊎_elim}
-use mathlib.Core.Path.{◌≡◌, refl, sym, ◌∙◌}
+use mathlib.Core.Path.{◌≡◌}
 use Prim.Native.Nat.{◌-◌, ◌≤◌}
-use native.Mathlib.Nat.{sub-zero}
-use native.Mathlib.Omega.{arith}
-use borrow.Author.Tests.{eq-eqb, ne_eqb}
 use Rattle.compress.specs.Network.{smaller_first, run, steps_from, pass}
-use Rattle.compress.proofs.Steps.{pass_more}
 use Rattle.compress.proofs.network.pass.Given as goal
 
 abbrev pub invariant-loop-i : goal.invariant-loop-i

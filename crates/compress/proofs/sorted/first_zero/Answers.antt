@@ -1,6 +1,4 @@
-use mathlib.Core.Path.{◌≡◌, refl, sym}
-use Prim.Native.Nat.{◌≤◌, ◌-◌}
-use native.Mathlib.Omega.{arith}
+use mathlib.Core.Path.{refl, sym}
 use Rattle.compress.specs.Network.{first_zero_to}
 use Rattle.compress.proofs.Places.{first_zero_more}
 use Rattle.std.proofs.Common.{rules}

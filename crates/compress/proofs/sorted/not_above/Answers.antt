@@ -1,5 +1,4 @@
-use mathlib.Core.Path.{◌≡◌, refl, sym}
-use Prim.Native.Nat.{◌≤◌, ◌-◌}
+use mathlib.Core.Path.{refl, sym}
 use native.Mathlib.Omega.{arith}
 use Rattle.compress.specs.Sorted.{count_to}
 use Rattle.compress.proofs.Places.{count_more}

@@ -1,8 +1,6 @@
-use mathlib.Core.Path.{◌≡◌, refl, sym}
-use Prim.Native.Nat.{◌≤◌, ◌-◌}
-use native.Mathlib.Omega.{arith}
+use mathlib.Core.Path.{◌≡◌}
+use Prim.Native.Nat.{◌≤◌}
 use Rattle.compress.specs.Sorted.{count_to}
-use Rattle.compress.proofs.Places.{count_more}
 use Rattle.compress.proofs.sorted.not_above.Given as goal
 
 abbrev pub invariant-loop-i : goal.invariant-loop-i

@@ -1,11 +1,11 @@
 -- `dds::header::put` meets its contract: field after field goes to its place.
 use mathlib.Core.Path.{◌≡◌, refl, ap, ◌∙◌}
-use Prim.Native.Nat.{◌+◌, ◌*◌, ◌-◌, ◌≤◌}
+use Prim.Native.Nat.{◌+◌, ◌*◌, ◌-◌}
 use native.Mathlib.Omega.{arith}
-use lib.ListN.{get_or, length-take, length-drop}
+use lib.ListN.{get_or}
 use Rattle.fields.specs.Fields.{field_of}
-use Rattle.place.proofs.Joined.{all_copied, Grown, grown_start, grown_step}
-use Rattle.dds.specs.Layout.{header_field, header_of}
+use Rattle.place.proofs.Joined.{grown_start, grown_step}
+use Rattle.dds.specs.Layout.{header_of}
 use Rattle.std.proofs.Common.{rules}
 use Rattle.dds.proofs.header.put.Goals as goal
 

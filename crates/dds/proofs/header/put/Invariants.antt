@@ -1,11 +1,7 @@
 -- `dds::header::put` meets its contract: field after field goes to its place.
-use mathlib.Core.Path.{◌≡◌, refl, ap, ◌∙◌}
-use Prim.Native.Nat.{◌+◌, ◌*◌, ◌-◌, ◌≤◌}
-use native.Mathlib.Omega.{arith}
-use lib.ListN.{get_or, length-take, length-drop}
-use Rattle.fields.specs.Fields.{field_of}
-use Rattle.place.proofs.Joined.{all_copied, Grown, grown_start, grown_step}
-use Rattle.dds.specs.Layout.{header_field, header_of}
+use Prim.Native.Nat.{◌≤◌}
+use Rattle.place.proofs.Joined.{Grown}
+use Rattle.dds.specs.Layout.{header_field}
 use Rattle.dds.proofs.header.put.Given as goal
 
 abbrev pub invariant-loop-k : goal.invariant-loop-k

@@ -1,4 +1,3 @@
-use mathlib.Core.Path.{sym, ◌∙◌}
 use Rattle.dds.specs.Layout.{array_size_in}
 use Rattle.dds.proofs.reading.array_size_in.Goals as goal
 

@@ -1,6 +1,5 @@
 -- `dds::reading::cut` meets its contract: the headers are there once neither check of 11 applies.
 use borrow.Author.Tests.{lt-ltb, le-ltb}
-use Rattle.dds.proofs.Headers.{whole}
 use Rattle.refusal.specs.Refusals.{first_of}
 use Rattle.dds.proofs.reading.cut.Goals as goal
 

@@ -1,4 +1,3 @@
-use mathlib.Core.Path.{sym, ◌∙◌}
 use borrow.Author.Tests.{eq-eqb, ne_eqb}
 use Rattle.dds.specs.Layout.{format_in}
 use Rattle.dds.proofs.reading.format_in.Goals as goal

@@ -1,11 +1,9 @@
 -- `dds::reading::sides` meets its contract: a size that is not refused has so many bytes that their count fits a word.
 use mathlib.Core.Path.{◌≡◌, sym, ◌∙◌}
-use Prim.Native.Nat.{◌*◌, ◌≤◌}
 use borrow.Author.Tests.{eq-eqb, ne_eqb}
-use Rattle.place.specs.Place.{longest_side}
 use Rattle.place.proofs.Places.{size_small}
 use Rattle.refusal.specs.declared.Checked.TheVariants.{Passed, Refused}
-use Rattle.refusal.specs.Refusals.{first_of, size_checks}
+use Rattle.refusal.specs.Refusals.{first_of}
 use Rattle.refusal.proofs.Firsts.{refused_before, passed_before}
 use Rattle.refusal.proofs.Sizes.{size_passed}
 use Rattle.dds.specs.Checks.{side_checks, body_checks}

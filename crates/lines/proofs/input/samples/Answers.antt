@@ -1,10 +1,9 @@
 -- `lines::input::samples` meets its contract: the array is filled from its start.
-use mathlib.Core.Path.{refl, ap, ◌∙◌}
-use Prim.Native.Nat.{ℕ, ◌-◌}
+use mathlib.Core.Path.{ap, ◌∙◌}
 use native.Mathlib.Omega.{arith}
-use lib.Ieee.{binary32, nan, of_bits}
-use Rattle.block.proofs.Fill.{Filled, fill_start, fill_step, fill_end}
-use Rattle.lines.specs.Input.{pattern_at, samples_of}
+use lib.Ieee.{binary32, of_bits}
+use Rattle.block.proofs.Fill.{fill_step, fill_end}
+use Rattle.lines.specs.Input.{samples_of}
 use Rattle.std.proofs.Common.{rules}
 use Rattle.lines.proofs.input.samples.Goals as goal
 

@@ -1,9 +1,7 @@
-use mathlib.Core.Path.{refl}
-use Prim.Native.Nat.{ℕ, ◌-◌}
-use native.Mathlib.Omega.{arith}
+use Prim.Native.Nat.{ℕ}
 use lib.Ieee.{nan}
 use Rattle.block.specs.Samples.{pixel_at}
-use Rattle.block.proofs.Fill.{Filled, fill_start, fill_step, fill_end}
+use Rattle.block.proofs.Fill.{Filled}
 use Rattle.palette.specs.PaletteError.{miss}
 use Rattle.palette.proofs.error.sum.Given as goal
 

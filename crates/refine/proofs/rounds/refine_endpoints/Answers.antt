@@ -1,5 +1,4 @@
 use native.Mathlib.Omega.{arith}
-use borrow.Author.Tests.{not-true}
 use Rattle.refine.specs.Rounds.{held, refined}
 use Rattle.refine.proofs.RoundLaws.{rounds_none, rounds_end}
 use Rattle.refine.proofs.rounds.refine_endpoints.Goals as goal

@@ -1,6 +1,4 @@
-use mathlib.Core.Path.{◌≡◌, refl, sym}
-use Prim.Native.Nat.{◌≤◌, ◌-◌}
-use native.Mathlib.Omega.{arith}
+use mathlib.Core.Path.{refl, sym}
 use Rattle.refine.specs.Rounds.{tried_to}
 use Rattle.refine.proofs.RoundLaws.{tried_more}
 use Rattle.std.proofs.Common.{rules}

@@ -1,8 +1,6 @@
-use mathlib.Core.Path.{◌≡◌, refl, sym}
-use Prim.Native.Nat.{◌≤◌, ◌-◌}
-use native.Mathlib.Omega.{arith}
+use mathlib.Core.Path.{◌≡◌}
+use Prim.Native.Nat.{◌≤◌}
 use Rattle.refine.specs.Rounds.{tried_to}
-use Rattle.refine.proofs.RoundLaws.{tried_more}
 use Rattle.refine.proofs.rounds.round.Given as goal
 
 abbrev pub invariant-loop-i : goal.invariant-loop-i

@@ -1,7 +1,4 @@
-use mathlib.Core.Path.{◌≡◌, refl, sym, ◌∙◌}
-use native.Mathlib.Omega.{arith}
-use borrow.Author.Tests.{not-true, not-false}
-use Rattle.refine.specs.Rounds.{rounds}
+use mathlib.Core.Path.{sym, ◌∙◌}
 use Rattle.refine.proofs.RoundLaws.{rounds_step, rounds_end, rounds_none}
 use Rattle.refine.proofs.rounds.rounds.Goals as goal
 

@@ -1,8 +1,5 @@
-use mathlib.Core.Path.{◌≡◌, refl, sym, ◌∙◌}
-use native.Mathlib.Omega.{arith}
-use borrow.Author.Tests.{not-true, not-false}
+use mathlib.Core.Path.{◌≡◌}
 use Rattle.refine.specs.Rounds.{rounds}
-use Rattle.refine.proofs.RoundLaws.{rounds_step, rounds_end, rounds_none}
 use Rattle.refine.proofs.rounds.rounds.Given as goal
 
 abbrev pub invariant-loop-left : goal.invariant-loop-left

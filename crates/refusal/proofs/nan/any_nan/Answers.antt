@@ -1,7 +1,5 @@
 -- `refusal::nan::any_nan` meets its contract: the flag says whether one was found among those passed.
-use Prim.Native.Nat.{◌-◌, ◌≤◌}
-use lib.ListN.{length}
-use Rattle.refusal.proofs.Nans.{Looked, looked_later, looked_all}
+use Rattle.refusal.proofs.Nans.{looked_later}
 use Rattle.std.proofs.Common.{rules}
 use Rattle.refusal.proofs.nan.any_nan.Goals as goal
 

@@ -1,7 +1,7 @@
 -- `refusal::nan::any_nan` meets its contract: the flag says whether one was found among those passed.
 use Prim.Native.Nat.{◌-◌, ◌≤◌}
 use lib.ListN.{length}
-use Rattle.refusal.proofs.Nans.{Looked, looked_later, looked_all}
+use Rattle.refusal.proofs.Nans.{Looked}
 use Rattle.refusal.proofs.nan.any_nan.Given as goal
 
 abbrev pub invariant-loop-i : goal.invariant-loop-i

@@ -1,7 +1,5 @@
 -- `refusal::nan::first_nan` meets its contract: the samples that were passed are none.
-use Prim.Native.Nat.{◌-◌, ◌≤◌}
-use lib.ListN.{length}
-use Rattle.refusal.proofs.Nans.{Passed-to, nan_here, nan_later, nan_none}
+use Rattle.refusal.proofs.Nans.{nan_here, nan_later, nan_none}
 use Rattle.std.proofs.Common.{rules}
 use Rattle.refusal.proofs.nan.first_nan.Goals as goal
 

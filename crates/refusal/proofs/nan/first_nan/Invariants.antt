@@ -1,7 +1,7 @@
 -- `refusal::nan::first_nan` meets its contract: the samples that were passed are none.
 use Prim.Native.Nat.{◌-◌, ◌≤◌}
 use lib.ListN.{length}
-use Rattle.refusal.proofs.Nans.{Passed-to, nan_here, nan_later, nan_none}
+use Rattle.refusal.proofs.Nans.{Passed-to}
 use Rattle.refusal.proofs.nan.first_nan.Given as goal
 
 abbrev pub invariant-loop-i : goal.invariant-loop-i

@@ -1,7 +1,6 @@
-use mathlib.Core.Path.{◌≡◌, sym, ◌∙◌}
+use mathlib.Core.Path.{sym, ◌∙◌}
 use borrow.Author.Tests.{eq-eqb, ne_eqb}
 use Rattle.place.proofs.Places.{size_small, bytes_small}
-use Rattle.refusal.specs.declared.Checked.TheVariants.{Passed}
 use Rattle.refusal.specs.Refusals.{first_of, size_checks}
 use Rattle.refusal.proofs.Firsts.{refused_before, passed_before}
 use Rattle.refusal.proofs.Sizes.{size_passed}

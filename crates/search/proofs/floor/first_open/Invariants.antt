@@ -1,5 +1,4 @@
-use Prim.Native.Nat.{◌≤◌, ◌-◌}
-use native.Mathlib.Omega.{arith}
+use Prim.Native.Nat.{◌≤◌}
 use Rattle.search.proofs.floor.first_open.Given as goal
 
 abbrev pub invariant-loop-max : goal.invariant-loop-max

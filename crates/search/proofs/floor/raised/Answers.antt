@@ -1,6 +1,3 @@
-use Prim.Native.Nat.{◌-◌}
-use native.Mathlib.Omega.{arith}
-use Rattle.search.specs.Floor.{Floors}
 use Rattle.search.proofs.FirstRow.{floors_start, floors_raised}
 use Rattle.search.proofs.floor.raised.Goals as goal
 

@@ -1,7 +1,4 @@
-use Prim.Native.Nat.{◌-◌}
-use native.Mathlib.Omega.{arith}
 use Rattle.search.specs.Floor.{Floors}
-use Rattle.search.proofs.FirstRow.{floors_start, floors_raised}
 use Rattle.search.proofs.floor.raised.Given as goal
 
 abbrev pub invariant-loop-max : goal.invariant-loop-max

@@ -1,12 +1,8 @@
-use mathlib.Core.Path.{refl, ap, ◌∙◌}
-use mathlib.Core.List.{List}
-use Prim.Native.Nat.{ℕ, ◌-◌}
+use mathlib.Core.Path.{ap, ◌∙◌}
 use native.Mathlib.Omega.{arith}
-use lib.Ieee.{Float, nan}
-use Rattle.block.specs.Samples.{pixel_at}
 use Rattle.block.specs.Orders.{sum_in_order}
-use Rattle.block.proofs.Fill.{Filled, fill_start, fill_step, fill_end}
-use Rattle.search.specs.Floor.{beyond, at_least, floor_of}
+use Rattle.block.proofs.Fill.{fill_end}
+use Rattle.search.specs.Floor.{floor_of}
 use Rattle.search.proofs.floor.sum.Goals as goal
 
 pub returns : goal.returns

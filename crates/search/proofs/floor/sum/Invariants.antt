@@ -1,12 +1,9 @@
-use mathlib.Core.Path.{refl, ap, ◌∙◌}
 use mathlib.Core.List.{List}
-use Prim.Native.Nat.{ℕ, ◌-◌}
-use native.Mathlib.Omega.{arith}
+use Prim.Native.Nat.{ℕ}
 use lib.Ieee.{Float, nan}
 use Rattle.block.specs.Samples.{pixel_at}
-use Rattle.block.specs.Orders.{sum_in_order}
-use Rattle.block.proofs.Fill.{Filled, fill_start, fill_step, fill_end}
-use Rattle.search.specs.Floor.{beyond, at_least, floor_of}
+use Rattle.block.proofs.Fill.{Filled}
+use Rattle.search.specs.Floor.{beyond, at_least}
 use Rattle.search.proofs.floor.sum.Given as goal
 
 abbrev pub term : List Float → Float → Float → ℕ → Float

@@ -1,9 +1,7 @@
 -- `station::editions::alike` meets its contract: the flag says whether the bytes passed are the same.
-use mathlib.Core.Path.{◌≡◌, refl}
-use Prim.Native.Nat.{◌-◌, ◌≤◌}
+use mathlib.Core.Path.{refl}
 use native.Mathlib.Numerals.{add-one}
 use native.Mathlib.Omega.{arith}
-use Rattle.place.specs.Place.{bc4_size}
 use Rattle.station.specs.Editions.{alike}
 use Rattle.std.proofs.Common.{rules}
 use Rattle.station.proofs.editions.alike.Goals as goal

@@ -1,8 +1,6 @@
 -- `station::editions::alike` meets its contract: the flag says whether the bytes passed are the same.
-use mathlib.Core.Path.{◌≡◌, refl}
-use Prim.Native.Nat.{◌-◌, ◌≤◌}
-use native.Mathlib.Numerals.{add-one}
-use native.Mathlib.Omega.{arith}
+use mathlib.Core.Path.{◌≡◌}
+use Prim.Native.Nat.{◌≤◌}
 use Rattle.place.specs.Place.{bc4_size}
 use Rattle.station.specs.Editions.{alike}
 use Rattle.station.proofs.editions.alike.Given as goal

@@ -1,10 +1,9 @@
 -- `station::shape::message` meets its contract, check by check.
-use mathlib.Core.Path.{◌≡◌, sym, ◌∙◌}
+use mathlib.Core.Path.{sym, ◌∙◌}
 use native.Mathlib.Omega.{arith}
 use borrow.Author.Tests.{eq-eqb, ne_eqb}
 use Rattle.place.specs.Place.{bc4_size}
 use Rattle.place.proofs.Places.{size_small, bytes_small}
-use Rattle.refusal.specs.declared.Checked.TheVariants.{Passed}
 use Rattle.refusal.specs.Refusals.{first_of, bytes_checks}
 use Rattle.refusal.proofs.Firsts.{refused_before, passed_before}
 use Rattle.refusal.proofs.Tiles.{bytes_passed}

@@ -1,13 +1,10 @@
-use mathlib.Core.Path.{refl, ap, ◌∙◌}
-use mathlib.Core.List.{List}
-use Prim.Native.Nat.{ℕ, ◌-◌}
+use mathlib.Core.Path.{ap, ◌∙◌}
 use native.Mathlib.Omega.{arith}
-use lib.Ieee.{Float, nan}
 use Rattle.index_list.proofs.Laws.{filled_same}
 use Rattle.block.specs.Samples.{pixel_at}
 use Rattle.block.specs.Orders.{sum_of_squares}
-use Rattle.block.proofs.Fill.{Filled, fill_start, fill_step, fill_end}
-use Rattle.palette.specs.Closest.{nearest_to, closest4}
+use Rattle.block.proofs.Fill.{fill_end}
+use Rattle.palette.specs.Closest.{closest4}
 use Rattle.palette.proofs.ClosestLaws.{nearest6_lt, indexed_is}
 use Rattle.palette.proofs.inter4.Inter4Palette.block_closest.Goals as goal
 

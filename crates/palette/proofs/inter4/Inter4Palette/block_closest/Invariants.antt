@@ -1,14 +1,9 @@
-use mathlib.Core.Path.{refl, ap, ◌∙◌}
 use mathlib.Core.List.{List}
-use Prim.Native.Nat.{ℕ, ◌-◌}
-use native.Mathlib.Omega.{arith}
+use Prim.Native.Nat.{ℕ}
 use lib.Ieee.{Float, nan}
-use Rattle.index_list.proofs.Laws.{filled_same}
 use Rattle.block.specs.Samples.{pixel_at}
-use Rattle.block.specs.Orders.{sum_of_squares}
-use Rattle.block.proofs.Fill.{Filled, fill_start, fill_step, fill_end}
-use Rattle.palette.specs.Closest.{nearest_to, closest4}
-use Rattle.palette.proofs.ClosestLaws.{nearest6_lt, indexed_is}
+use Rattle.block.proofs.Fill.{Filled}
+use Rattle.palette.specs.Closest.{nearest_to}
 use Rattle.palette.proofs.inter4.Inter4Palette.block_closest.Given as goal
 
 -- the index and the error of pixel i

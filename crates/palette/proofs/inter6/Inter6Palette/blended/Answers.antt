@@ -1,5 +1,3 @@
-use Rattle.floats.proofs.WholePart.{whole_in}
-use native.Mathlib.Omega.{arith}
 use mathlib.Core.Path.{refl}
 use Rattle.palette.specs.Palettes.{blended}
 use Rattle.palette.proofs.inter6.Inter6Palette.blended.Goals as goal

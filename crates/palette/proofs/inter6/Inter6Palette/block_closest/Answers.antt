@@ -1,11 +1,10 @@
-use mathlib.Core.Path.{◌≡◌, refl, ◌∙◌}
-use Prim.Native.Nat.{ℕ, ◌-◌, ◌<◌}
+use mathlib.Core.Path.{◌≡◌, ◌∙◌}
+use Prim.Native.Nat.{ℕ, ◌<◌}
 use native.Mathlib.Omega.{arith}
 use lib.ListN.{get_or}
 use lib.Ieee.{nan}
 use Rattle.index_list.specs.Indexes.{filled_to}
 use Rattle.block.specs.Samples.{pixel_at}
-use Rattle.block.proofs.Fill.{Filled, fill_start, fill_step}
 use Rattle.palette.specs.Closest.{closest6}
 use Rattle.palette.specs.Rows.{index6, off6, row_code, row_sum, of_row}
 use Rattle.palette.proofs.ClosestLaws.{row_lt, rows_code, rows_sum, sum_abs, indexed_is}

@@ -1,10 +1,8 @@
-use mathlib.Core.Path.{refl}
-use Prim.Native.Nat.{ℕ, ◌-◌}
-use native.Mathlib.Omega.{arith}
+use Prim.Native.Nat.{ℕ}
 use lib.Ieee.{nan}
 use Rattle.block.specs.Samples.{pixel_at}
-use Rattle.block.proofs.Fill.{Filled, fill_start, fill_step, fill_end}
-use Rattle.palette.specs.Closest.{weight, weights}
+use Rattle.block.proofs.Fill.{Filled}
+use Rattle.palette.specs.Closest.{weight}
 use Rattle.palette.proofs.inter6.Inter6Palette.block_closest_weights.Given as goal
 
 abbrev pub invariant-loop-i : goal.invariant-loop-i
