@@ -2,7 +2,8 @@
 // `lines::text`; no contract of the system's calls says what is read or written, so nothing but reading and writing is left here.
 #![tactic(auto)]
 
-ghost use Rattle.std.specs.Prelude.{◌≡◌, cond, ◌*◌, ◌/◌, ◌≤◌, length};
+ghost use Rattle.std.specs.Prelude.{◌≡◌, cond, false, ◌*◌, ◌/◌, ◌<◌, ◌≤◌, length, take};
+ghost use Rattle.std.specs.Io.KnownBytes.{Consumes, IsAtEnd};
 
 use std::io::{Read, Write};
 
@@ -15,7 +16,9 @@ pub struct Filled {
 
 // std's `read_exact` does not tell how much was read where the input ends or a read fails. A read that a signal interrupts has failed.
 pub fn fill<R: Read>(input: &mut R, buf: &mut [u8]) -> Filled
-    ensures { (result.count ≤ length buf.old) × (length buf.new ≡ length buf.old) }
+    ensures bound { (result.count ≤ length buf.old) × (length buf.new ≡ length buf.old) }
+    ensures bytes { Consumes (R.remaining input.old) (R.remaining input.new) (take result.count buf.new) }
+    ensures end { result.failed ≡ false → result.count < length buf.new → IsAtEnd (R.remaining input.new) }
 {
     let mut done = 0;
     while done < buf.len() {
