@@ -11,7 +11,7 @@
    - The thread's floating-point environment is the one that a program starts with: rounding to nearest, no flush to zero, denormals not taken as zero
      (linking with -ffast-math may change both), exceptions masked. Else bytes and samples may be others than the proved ones, and a call may raise SIGFPE.
      A call may leave status flags set.
-   What the library needs of its program: memcpy, memset. */
+   What the library needs of its program: memcpy, memmove, memset. */
 #ifndef BC4_H
 #define BC4_H
 
