@@ -3,7 +3,7 @@ use mathlib.Core.Path.{◌≡◌, refl, sym, ◌∙◌, subst}
 use mathlib.Core.Logic.{◌⊎◌, inl, inr, ⊎_elim, dite}
 use mathlib.Core.Bool.{Bool, true, false, cond, ◌||◌}
 use mathlib.Core.List.{List}
-use Prim.Native.Nat.{ℕ, ◌<◌}
+use Prim.Native.Nat.{ℕ, ◌+◌, ◌<◌, ◌≤◌}
 use native.Mathlib.Decide.{ℕ_discrete}
 use native.Mathlib.Omega.{arith}
 use lib.ListN.{get_or, set, length-set}
@@ -13,14 +13,14 @@ use Rattle.floats.specs.Helpers.{lane_max}
 use Rattle.floats.proofs.Tests.{clash, either}
 use Rattle.floats.proofs.Order.{lt_trans, lt_cotrans, lt_right, ne_self}
 use Rattle.values.specs.Values.{value_of}
-use Rattle.block.proofs.Fill.{length_tabulate, get_d_tabulate}
+use Rattle.block.proofs.Fill.{Filled, length_tabulate, get_d_tabulate}
 use Rattle.end_points.specs.EndPoints.{of_bytes}
 use Rattle.palette.specs.declared.Kind.{Kind}
 use Rattle.palette.specs.declared.Kind.TheVariants.{Six, Four}
 use Rattle.palette.specs.Rows.{first_row_error}
 use Rattle.palette.proofs.ErrorFloor.{row_floor_lem}
 use Rattle.search.specs.Covered.{pair_error}
-use Rattle.search.specs.Floor.{max_floor, max_floors, row_floor, Floors}
+use Rattle.search.specs.Floor.{max_floor, max_floors, row_floor, Floors, PartFloors}
 use Rattle.search.proofs.PassedOver.{max_floor_lem}
 
 -- ---- the lesser of two, or a NaN
@@ -56,14 +56,20 @@ module _ (b : List Float) (min : ℕ) where
     each = λ max h l kind. rw get_d_tabulate (max_floor_lem b min max h (omega arith) kind);
   }
 
-  pub floors_raised : (out : List Float) (at : ℕ) (v : Float) → Floors b min out → at < 256
-      → v ≡ lane_max (get_or out at nan) (row_floor b (value_of min false) (value_of at false)) → Floors b min (set out at v)
-  floors_raised out at v f a e = record {
+  pub part_start : (at n : ℕ) (out : List Float) → at + n ≤ 256 → Filled nan (λ i. get_or (max_floors b) (at + i) nan) 32 out n → PartFloors b min at n out
+  part_start at n out l o = record {
+    size = o.size;
+    each = λ i h k kind. rw (o.done i h) (floors_start.each (at + i) k (omega arith) kind);
+  }
+
+  pub part_raised : (at n : ℕ) (out : List Float) (i : ℕ) (v : Float) → PartFloors b min at n out → i < n → i < 32
+      → v ≡ lane_max (get_or out i nan) (row_floor b (value_of min false) (value_of (at + i) false)) → PartFloors b min at n (set out i v)
+  part_raised at n out i v f l a e = record {
     size = simp length-set f.size;
-    each = λ max h l kind. dite (ℕ_discrete max at) (λ k. own max k h l kind) (λ k. rw (get_or-set_other out at max v nan k) (f.each max h l kind));
+    each = λ j h k kind. dite (ℕ_discrete j i) (λ m. own j m h k kind) (λ m. rw (get_or-set_other out i j v nan m) (f.each j h k kind));
   }
     where
-      own : (max : ℕ) → max ≡ at → min < max → max < 256 → (kind : Kind) → lt (pair_error kind b min max) (get_or (set out at v) max nan) ≡ false
-      own max k h l kind =
-          rw (k, get_or-set_same out at v nan (subst (λ (m : ℕ). at < m) (sym f.size) a), e)
-          (not_below_larger _ _ _ (f.each at (subst (λ (m : ℕ). min < m) k h) a kind) (pair_row at kind))
+      own : (j : ℕ) → j ≡ i → j < n → min < at + j → (kind : Kind) → lt (pair_error kind b min (at + j)) (get_or (set out i v) j nan) ≡ false
+      own j m h k kind =
+          rw (m, get_or-set_same out i v nan (subst (λ (s : ℕ). i < s) (sym f.size) a), e)
+          (not_below_larger _ _ _ (f.each i l (subst (λ (s : ℕ). min < at + s) m k) kind) (pair_row (at + i) kind))

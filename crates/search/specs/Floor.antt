@@ -1,7 +1,7 @@
 -- Floors of palette errors, by which the search passes pairs over. For many pairs at once: the values of a pair's palettes lie between its ends, but
 -- for rounding, and of four values two are 0 and 1; so a sample beyond the ends is at least so far from all of them. For one pair: a part of its
 -- errors. `min_floor_lem`, `max_floor_lem` and `pair_row` in proofs/ say that no error is below its floor.
-use Rattle.std.specs.Prelude.{◌≡◌, List, true, false, cond, ◌||◌, ℕ, ◌<◌, length, get_or, Float}
+use Rattle.std.specs.Prelude.{◌≡◌, List, true, false, cond, ◌||◌, ℕ, ◌<◌, length, get_or, Float, ◌+◌}
 use Rattle.std.specs.Float.{nan, inf}
 use Rattle.std.specs.Float.Ieee.{lt, ne}
 use Rattle.floats.specs.Arithmetic.{◌⊕◌, ◌⊖◌, squared, bits, f0, f1}
@@ -50,3 +50,8 @@ row_floor b low high =
 pub record Floors (b : List Float) (min : ℕ) (floors : List Float) : Type 0 where
   pub size : length floors ≡ 256
   pub each : (max : ℕ) → min < max → max < 256 → (kind : Kind) → lt (pair_error kind b min max) (get_or floors max nan) ≡ false
+
+-- of n values of max, from `at` on, a floor for each pair with this min
+pub record PartFloors (b : List Float) (min at n : ℕ) (floors : List Float) : Type 0 where
+  pub size : length floors ≡ 32
+  pub each : (i : ℕ) → i < n → min < at + i → (kind : Kind) → lt (pair_error kind b min (at + i)) (get_or floors i nan) ≡ false

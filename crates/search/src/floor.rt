@@ -1,6 +1,6 @@
 // Floors of palette errors, by which the search passes pairs over that cannot be the answer.
-ghost use Rattle.std.specs.Prelude.{◌≡◌, ◌≤◌};
-ghost use Rattle.search.specs.Floor.{beyond as beyond_of, at_least, floor_of, min_floor, max_floor, max_floors, row_floor, Floors};
+ghost use Rattle.std.specs.Prelude.{◌≡◌, ◌+◌, ◌≤◌};
+ghost use Rattle.search.specs.Floor.{beyond as beyond_of, at_least, floor_of, min_floor, max_floor, max_floors, row_floor, PartFloors};
 
 use palette::Kind;
 
@@ -75,28 +75,33 @@ fn row_floor(b: &[f32; 16], low: f32, high: f32) -> f32
     floats::pick((six < four) | (six != six), six, four)
 }
 
-// The first max that its floor does not pass over. Nothing rests on it but the time.
-fn first_open(floors: &[f32; 256], held: f32, first: u32) -> usize
-    ensures { result ≤ 256 }
+// The first of n values of max that its floor does not pass over. Nothing rests on it but the time.
+fn first_open(floors: &[f32; 32], held: f32, n: u32) -> usize
+    requires { n ≤ 32 }
+    ensures { result ≤ 32 }
 {
-    for max in (first as usize)..256usize {
-        if floors[max] < held {
-            return max;
+    for i in 0..n as usize {
+        if floors[i] < held {
+            return i;
         }
     }
-    256
+    n as usize
 }
 
-// For the pairs of one min: the floors of their max, raised by what their first row adds.
-pub fn raised(b: &[f32; 16], floors: &[f32; 256], held: f32, min: u8, first: u32) -> [f32; 256]
-    requires { floors.now ≡ max_floors b.now }
-    ensures { Floors b.now min result }
+// For the pairs of one min with n values of max, from `at` on: the floors of these, raised by what their first row adds. A part at a time: a copy of all
+// floors would take a fourth of the stack of a call.
+pub fn raised(b: &[f32; 16], floors: &[f32; 256], held: f32, min: u8, at: u32, n: u32) -> [f32; 32]
+    requires { (floors.now ≡ max_floors b.now) × (at + n ≤ 256) × (n ≤ 32) }
+    ensures { PartFloors b.now min at n result }
 {
-    let mut raised = *floors;
+    let mut raised = [0.0f32; 32];
+    for i in 0..n as usize {
+        raised[i] = floors[at as usize + i];
+    }
     let low = values::n8::f32(min);
-    for max in first_open(floors, held, first)..256usize {
-        let high = values::n8::f32(max as u8);
-        raised[max] = floats::lane_max(raised[max], row_floor(b, low, high));
+    for i in first_open(&raised, held, n)..n as usize {
+        let high = values::n8::f32((at as usize + i) as u8);
+        raised[i] = floats::lane_max(raised[i], row_floor(b, low, high));
     }
     raised
 }

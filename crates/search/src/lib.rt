@@ -1,13 +1,13 @@
 // reference_brute_force. Pairs that cannot be below what is held are passed over, by floors of their errors: the answer is that of all pairs tried.
 #![tactic(auto)]
 
-ghost use Rattle.std.specs.Prelude.{◌≡◌, ◌⊎◌, true, false, ◌<◌, ◌≤◌, ◌-◌};
+ghost use Rattle.std.specs.Prelude.{◌≡◌, ◌⊎◌, true, false, ◌<◌, ◌≤◌, ◌+◌, ◌-◌};
 ghost use Rattle.std.specs.Float.{inf};
 ghost use Rattle.std.specs.Float.Ieee.{lt};
 ghost use Rattle.palette.specs.declared.Kind.{Kind as KindOf};
 ghost use Rattle.palette.specs.declared.Kind.TheVariants.{Six};
 ghost use Rattle.search.specs.Covered.{pair_error};
-ghost use Rattle.search.specs.Floor.{max_floors, Floors};
+ghost use Rattle.search.specs.Floor.{max_floors, PartFloors};
 ghost use Rattle.search.specs.Search.{mode_tried, pair_tried, maxes_tried, mins_tried, first_max, searched};
 
 mod floor;
@@ -44,16 +44,27 @@ fn pair_tried(b: &[f32; 16], floor: f32, best: Coded, min: u8, max: u8) -> Coded
     mode_tried(Kind::Four, b, six, e.inter6_to_inter4())
 }
 
-fn maxes_tried(b: &[f32; 16], floors: &[f32; 256], start: Coded, min: u8, first: u32) -> Coded
-    requires { Floors b.now min floors.now × (min < first) × (first ≤ 256) }
-    ensures { result ≡ maxes_tried b.now start min first (256 - first) }
+fn maxes_tried(b: &[f32; 16], floors: &[f32; 32], start: Coded, min: u8, at: u32, n: u32) -> Coded
+    requires { PartFloors b.now min at n floors.now × (min < at) × (at + n ≤ 256) × (n ≤ 32) }
+    ensures { result ≡ maxes_tried b.now start min at n }
 {
     let mut best = start;
-    for max in first..256u32 {
-        let at = max as usize;
-        best = pair_tried(b, floors[at], best, min, max as u8);
+    for i in 0..n {
+        let floor = floors[i as usize];
+        best = pair_tried(b, floor, best, min, (at + i) as u8);
     }
     best
+}
+
+// How many values of max are tried next, from `at` on.
+fn next(at: u32) -> u32
+    requires { at < 256 }
+    ensures { (0 < result) × (result ≤ 32) × (at + result ≤ 256) }
+{
+    if at < 224 {
+        return 32;
+    }
+    256 - at
 }
 
 fn min_tried(b: &[f32; 16], floors: &[f32; 256], best: Coded, min: u8, first: u32) -> Coded
@@ -63,8 +74,15 @@ fn min_tried(b: &[f32; 16], floors: &[f32; 256], best: Coded, min: u8, first: u3
     if floor::min_floor(b, min) >= best.error {
         return best;
     }
-    let raised = floor::raised(b, floors, best.error, min, first);
-    maxes_tried(b, &raised, best, min, first)
+    let mut held = best;
+    let mut at = first;
+    while at < 256 {
+        let n = next(at);
+        let raised = floor::raised(b, floors, held.error, min, at, n);
+        held = maxes_tried(b, &raised, held, min, at, n);
+        at += n;
+    }
+    held
 }
 
 fn first_max(least: u32, min: u32) -> u32

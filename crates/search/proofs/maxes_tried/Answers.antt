@@ -1,16 +1,17 @@
-use mathlib.Core.Path.{sym}
+use mathlib.Core.Path.{refl, sym}
 use native.Mathlib.Omega.{arith}
-use Rattle.search.proofs.Steps.{maxes_none, maxes_more}
+use Rattle.search.specs.Search.{maxes_tried}
+use Rattle.search.proofs.Steps.{maxes_more}
 use Rattle.std.proofs.Common.{rules}
 use Rattle.search.proofs.maxes_tried.Goals as goal
 
-pub loop-max-init : goal.loop-max-init
-loop-max-init c = (search rules, search rules, sym (maxes_none c.args.b.now c.args.start c.args.min c.args.first))
+pub loop-i-init : goal.loop-i-init
+unfolding maxes_tried
+loop-i-init c = (search rules, refl)
 
-pub loop-max-preserved : goal.loop-max-preserved
-loop-max-preserved c =
+pub loop-i-preserved : goal.loop-i-preserved
+loop-i-preserved c =
     let a = c.args in (
-      omega (arith, c.loop-max.invariant.0),
-      omega (arith, c.loop-max-test.true),
-      rw (c.pair_tried-best.ensures, c.loop-max.invariant.2) (sym (maxes_more a.b.now a.start a.min a.first c.loop-max.max c.loop-max.invariant.0)),
+      omega (arith, c.loop-i-test.true),
+      rw (c.pair_tried-best.ensures, c.loop-i.invariant.1) (sym (maxes_more a.b.now a.start a.min a.at c.loop-i.i)),
     )

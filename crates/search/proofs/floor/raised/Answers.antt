@@ -1,11 +1,16 @@
-use Rattle.search.proofs.FirstRow.{floors_start, floors_raised}
+use mathlib.Core.Path.{◌≡◌}
+use native.Mathlib.Omega.{arith}
+use Rattle.search.proofs.FirstRow.{part_start, part_raised}
 use Rattle.search.proofs.floor.raised.Goals as goal
 
-pub loop-max-init : goal.loop-max-init
-loop-max-init c = rw c.requires (floors_start c.args.b.now c.args.min)
-
-pub loop-max-preserved : goal.loop-max-preserved
-loop-max-preserved c =
+pub loop-i-2-init : goal.loop-i-2-init
+loop-i-2-init c =
     let a = c.args in
-    floors_raised a.b.now a.min c.loop-max.raised c.loop-max.max c.lane_max.result c.loop-max.invariant c.loop-max-test.true
+    let all : c.loop-i.i ≡ a.n = omega arith in
+    part_start a.b.now a.min a.at a.n c.loop-i.raised c.requires.1 (rw all at c.loop-i.invariant)
+
+pub loop-i-2-preserved : goal.loop-i-2-preserved
+loop-i-2-preserved c =
+    let a = c.args in
+    part_raised a.b.now a.min a.at a.n c.loop-i-2.raised c.loop-i-2.i c.lane_max.result c.loop-i-2.invariant c.loop-i-2-test.true (omega arith)
     (rw (c.lane_max.ensures, c.row_floor.ensures, c.f32-high.ensures, c.f32-low.ensures))
