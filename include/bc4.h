@@ -4,7 +4,7 @@
    A call answers 0, or the number of a refusal: of all that apply, the first in the order that its comment lists them. A refused call changes nothing
    that it was lent, but for *detail, where the refusal has something to say. No call reads or writes outside what it is lent, and each ends for every input. That, and every value written, is proved, as far as the caller keeps its part. No call allocates, keeps a pointer or has
    a state: the language it is written in has no means for it. So calls may run in any number of threads at once. A call takes less than 4 KiB of stack, not
-   counting what memcpy and memset take.
+   counting what memcpy, memmove and memset take.
    The caller's part:
    - No pointer is null. A pointer that comes with a length has so many elements behind it, any other one as many as its type says.
    - What a call writes to overlaps nothing else that it is lent, to this call or to one in another thread.
