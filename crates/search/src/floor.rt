@@ -75,17 +75,16 @@ fn row_floor(b: &[f32; 16], low: f32, high: f32) -> f32
     floats::pick((six < four) | (six != six), six, four)
 }
 
-// The first of n values of max that its floor does not pass over. Nothing rests on it but the time.
-fn first_open(floors: &[f32; 32], held: f32, n: u32) -> usize
-    requires { n ≤ 32 }
+// The first of a part's floors that does not pass its max over. Nothing rests on it but the time.
+fn first_open(floors: &[f32; 32], held: f32) -> usize
     ensures { result ≤ 32 }
 {
-    for i in 0..n as usize {
+    for i in 0..32usize {
         if floors[i] < held {
             return i;
         }
     }
-    n as usize
+    32
 }
 
 // For the pairs of one min with n values of max, from `at` on: the floors of these, raised by what their first row adds. A part at a time: a copy of all
@@ -99,7 +98,7 @@ pub fn raised(b: &[f32; 16], floors: &[f32; 256], held: f32, min: u8, at: u32, n
         raised[i] = floors[at as usize + i];
     }
     let low = values::n8::f32(min);
-    for i in first_open(&raised, held, n)..n as usize {
+    for i in first_open(&raised, held)..n as usize {
         let high = values::n8::f32((at as usize + i) as u8);
         raised[i] = floats::lane_max(raised[i], row_floor(b, low, high));
     }
