@@ -7,13 +7,13 @@ one_more : (d : Bool) (m n : ℕ) → m ≤ n → m + cond d 1 0 ≤ suc n
 one_more true m n h = omega arith
 one_more false m n h = omega arith
 
-differing-le : (input : List ℕ) (n : ℕ) → differing_to input n ≤ n
+differing_le : (input : List ℕ) (n : ℕ) → differing_to input n ≤ n
 unfolding differing_to
-differing-le input zero = omega arith
-differing-le input (suc n) = one_more (differs_of (entry_at input n)) (differing_to input n) n (differing-le input n)
+differing_le input zero = omega arith
+differing_le input (suc n) = one_more (differs_of (entry_at input n)) (differing_to input n) n (differing_le input n)
 
 -- a buffer adds at most 860 records
-pub tally-most : (records differ : ℕ) (input : List ℕ) {t : Tally} → t ≡ tallied records differ input → length input ≤ 65360 → differ ≤ records
+pub tally_most : (records differ : ℕ) (input : List ℕ) {t : Tally} → t ≡ tallied records differ input → length input ≤ 65360 → differ ≤ records
     → (t.records ≤ records + 860) × (t.differ ≤ t.records)
 unfolding tallied
-tally-most records differ input {t} e l d = let some = differing-le input (length input / 76) in rw e (omega arith, omega arith)
+tally_most records differ input {t} e l d = let some = differing_le input (length input / 76) in rw e (omega arith, omega arith)
