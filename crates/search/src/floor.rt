@@ -1,5 +1,5 @@
 // Floors of palette errors, by which the search passes pairs over that cannot be the answer.
-ghost use Rattle.std.specs.Prelude.{◌≡◌, ◌+◌, ◌≤◌};
+ghost use Rattle.std.specs.Prelude.{◌≡◌, ◌+◌, ◌≤◌, length};
 ghost use Rattle.search.specs.Floor.{beyond as beyond_of, at_least, floor_of, min_floor, max_floor, max_floors, row_floor, PartFloors};
 
 use palette::Kind;
@@ -76,15 +76,15 @@ fn row_floor(b: &[f32; 16], low: f32, high: f32) -> f32
 }
 
 // The first of a part's floors that does not pass its max over. Nothing rests on it but the time.
-fn first_open(floors: &[f32; 32], held: f32) -> usize
-    ensures { result ≤ 32 }
+fn first_open(floors: &[f32], held: f32) -> usize
+    ensures { result ≤ length floors.now }
 {
-    for i in 0..32usize {
+    for i in 0..floors.len() {
         if floors[i] < held {
             return i;
         }
     }
-    32
+    floors.len()
 }
 
 // For the pairs of one min with n values of max, from `at` on: the floors of these, raised by what their first row adds. A part at a time: a copy of all
@@ -98,7 +98,7 @@ pub fn raised(b: &[f32; 16], floors: &[f32; 256], held: f32, min: u8, at: u32, n
         raised[i] = floors[at as usize + i];
     }
     let low = values::n8::f32(min);
-    for i in first_open(&raised, held)..n as usize {
+    for i in first_open(&raised[..n as usize], held)..n as usize {
         let high = values::n8::f32((at as usize + i) as u8);
         raised[i] = floats::lane_max(raised[i], row_floor(b, low, high));
     }
