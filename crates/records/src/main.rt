@@ -1,4 +1,4 @@
-// The program as the gate proves and runs it; program/records.c is the same in C, over `lines` alone.
+// The program, which ./run starts and the gate runs; program/records.c is the same in C, over `lines` alone.
 #![tactic(auto)]
 
 use std::process::ExitCode;
