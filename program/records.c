@@ -1,5 +1,5 @@
 /* The program: reads records from standard input, and writes a line for each to standard output. What is written for a buffer is proved (crates/stream_c and
-   crates/lines); the reading and writing here is not. crates/records is the same program in Rattle, all of it proved. */
+   crates/lines); the reading and writing here is not. crates/records is the same program in Rattle, whose loop is proved too. */
 #include <stdint.h>
 #include <unistd.h>
 
