@@ -9,16 +9,11 @@ use Rattle.options.specs.declared.Options.{Options}
 use Rattle.options.specs.declared.Quantization.{Quantization}
 use Rattle.options.specs.declared.Quantization.TheVariants.{Round, MediumQuality, HighQuality}
 use Rattle.bc4.specs.declared.word.Word.{Word}
-use Rattle.bc4.specs.declared.Encoded.{Encoded}
-use Rattle.bc4.specs.declared.Encoded.TheVariants.{Block, Refused as NotEncoded}
-use Rattle.bc4.specs.declared.Resent.{Resent}
-use Rattle.bc4.specs.declared.Resent.TheVariants.{Block as Answered, Refused as NotResent}
-use Rattle.bc4.specs.declared.Tiled.{Tiled}
-use Rattle.bc4.specs.declared.Tiled.TheVariants.{Written, Refused as NotTiled}
+use Rattle.core.specs.declared.result.Result.TheVariants.{Ok, Err}
 use Rattle.index_list.specs.Layout.{from_bytes}
 use Rattle.encode.specs.Encoder.{compressed}
 use Rattle.place.specs.Place.{bc4_size, encoded_length}
-use Rattle.refusal.specs.Refusals.{first_of, answered, encode_checks, resend_checks, tile_checks, and_word}
+use Rattle.refusal.specs.Refusals.{Answer, first_of, answered, encode_checks, resend_checks, tile_checks, and_word}
 use Rattle.bc4.specs.Calls.{better_of}
 
 -- whether bit k of the flags is set
@@ -46,14 +41,14 @@ unfoldable pub word_of : ℕ → ℕ → ℕ → ℕ → Word
 word_of flags limit quality last = record { options = options_of flags limit (quality_of quality); malformed = ltb 2 quality || not (eqb last 0) }
 
 -- ---- the calls that take a word
-abbrev pub encode_by_word : List Float → Word → Encoded
-encode_by_word samples w = answered NotEncoded (Block (compressed samples w.options)) (first_of (and_word (encode_checks samples) w.malformed))
+abbrev pub encode_by_word : List Float → Word → Answer ℕ
+encode_by_word samples w = answered Err (Ok (compressed samples w.options)) (first_of (and_word (encode_checks samples) w.malformed))
 
-abbrev pub resend_by_word : List Float → List ℕ → Word → Resent
+abbrev pub resend_by_word : List Float → List ℕ → Word → Answer Kept
 resend_by_word samples held w =
-    answered NotResent (Answered (better_of samples (from_bytes held) w.options)) (first_of (and_word (resend_checks samples held w.options) w.malformed))
+    answered Err (Ok (better_of samples (from_bytes held) w.options)) (first_of (and_word (resend_checks samples held w.options) w.malformed))
 
 -- `room` is the length of the output
-abbrev pub tile_by_word : List Float → ℕ → ℕ → Word → ℕ → Tiled
+abbrev pub tile_by_word : List Float → ℕ → ℕ → Word → ℕ → Answer ℕ
 tile_by_word samples width height w room =
-    answered NotTiled (Written (encoded_length bc4_size width height)) (first_of (and_word (tile_checks samples width height room) w.malformed))
+    answered Err (Ok (encoded_length bc4_size width height)) (first_of (and_word (tile_checks samples width height room) w.malformed))

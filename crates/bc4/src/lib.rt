@@ -10,38 +10,13 @@ ghost use Rattle.bc4.specs.Calls.{encode_answer, samples_after, error_answer, be
 pub mod word;
 
 pub use options::{Options, Quantization};
-pub use refusal::{Checked, Refusal, Side, Spot, number};
-
-#[derive(Clone, Copy)]
-pub enum Encoded {
-    Block(u64),
-    Refused(Refusal),
-}
-
-#[derive(Clone, Copy)]
-pub enum Scored {
-    Error(f32),
-    Refused(Refusal),
-}
+pub use refusal::{Refusal, Side, Spot, number};
 
 // The bytes to hold from now on, and whether they are the fresh ones.
 #[derive(Clone, Copy)]
 pub struct Kept {
     pub block: u64,
     pub fresh: bool,
-}
-
-#[derive(Clone, Copy)]
-pub enum Resent {
-    Block(Kept),
-    Refused(Refusal),
-}
-
-#[derive(Clone, Copy)]
-pub enum Tiled {
-    // So many bytes were written.
-    Written(usize),
-    Refused(Refusal),
 }
 
 // The eight bytes of a block, in order.
@@ -59,59 +34,39 @@ fn sixteen(samples: &[f32]) -> [f32; 16]
     place::gather(samples, 4, 0, 0)
 }
 
-pub fn encode_block(samples: &[f32], o: Options) -> Encoded
+pub fn encode_block(samples: &[f32], o: Options) -> Result<u64, Refusal>
     ensures { result ≡ encode_answer samples.now o }
 {
-    let checked = refusal::encode(samples);
-    match checked {
-        Checked::Refused(q) => Encoded::Refused(q),
-        Checked::Passed => {
-            let b = sixteen(samples);
-            Encoded::Block(encode::compress_bc4_block(&b, o))
-        }
-    }
+    refusal::encode(samples)?;
+    let b = sixteen(samples);
+    Ok(encode::compress_bc4_block(&b, o))
 }
 
 // Sixteen samples into the caller's array, which stays as it was on a refusal.
-pub fn decode_block(encoded: &[u8], snorm: bool, samples: &mut [f32; 16]) -> Checked
+pub fn decode_block(encoded: &[u8], snorm: bool, samples: &mut [f32; 16]) -> Result<(), Refusal>
     ensures answer { result ≡ first_of (decode_checks encoded.now) }
     ensures samples { samples.new ≡ samples_after result encoded.now snorm samples.old }
 {
-    let checked = refusal::decode(encoded);
-    match checked {
-        Checked::Refused(q) => Checked::Refused(q),
-        Checked::Passed => {
-            decode::decode_into(index_list::from_bytes(encoded), snorm, samples);
-            Checked::Passed
-        }
-    }
+    refusal::decode(encoded)?;
+    decode::decode_into(index_list::from_bytes(encoded), snorm, samples);
+    Ok(())
 }
 
-pub fn block_error(samples: &[f32], encoded: &[u8], snorm: bool) -> Scored
+pub fn block_error(samples: &[f32], encoded: &[u8], snorm: bool) -> Result<f32, Refusal>
     ensures { result ≡ error_answer samples.now encoded.now snorm }
 {
-    let checked = refusal::error(samples, encoded);
-    match checked {
-        Checked::Refused(q) => Scored::Refused(q),
-        Checked::Passed => {
-            let b = sixteen(samples);
-            Scored::Error(decode::block_error(&b, index_list::from_bytes(encoded), snorm))
-        }
-    }
+    refusal::error(samples, encoded)?;
+    let b = sixteen(samples);
+    Ok(decode::block_error(&b, index_list::from_bytes(encoded), snorm))
 }
 
 // Encodes afresh, and hands back the fresh bytes exactly when their block error is strictly below that of the held ones.
-pub fn resend(samples: &[f32], held: &[u8], o: Options) -> Resent
+pub fn resend(samples: &[f32], held: &[u8], o: Options) -> Result<Kept, Refusal>
     ensures { result ≡ resend_answer samples.now held.now o }
 {
-    let checked = refusal::resend(samples, held, o);
-    match checked {
-        Checked::Refused(q) => Resent::Refused(q),
-        Checked::Passed => {
-            let b = sixteen(samples);
-            Resent::Block(better(&b, index_list::from_bytes(held), o))
-        }
-    }
+    refusal::resend(samples, held, o)?;
+    let b = sixteen(samples);
+    Ok(better(&b, index_list::from_bytes(held), o))
 }
 
 // Of samples that were checked: the choice of a resend.
@@ -133,25 +88,20 @@ pub fn better(b: &[f32; 16], held: u64, o: Options) -> Kept
     }
 }
 
-// The blocks of a tile, row by row from the top left, into the first width * height / 2 bytes of `out`. Later bytes stay.
+// The blocks of a tile, row by row from the top left, into the first width * height / 2 bytes of `out`: how many were written. Later bytes stay.
 pub fn encode_tile(
     samples: &[f32],
     width: usize,
     height: usize,
     o: Options,
     out: &mut [u8],
-) -> Tiled
+) -> Result<usize, Refusal>
     ensures answer { result ≡ tile_answer samples.now width height (length out.old) }
     ensures bytes { out.new ≡ out_after result samples.now width height o out.old }
 {
-    let checked = refusal::tile(samples, width, height, out.len());
-    match checked {
-        Checked::Refused(q) => Tiled::Refused(q),
-        Checked::Passed => {
-            tile::encode_rows(samples, width, height, o, out);
-            Tiled::Written(place::encoded_length(place::BC4_SIZE, width, height))
-        }
-    }
+    refusal::tile(samples, width, height, out.len())?;
+    tile::encode_rows(samples, width, height, o, out);
+    Ok(place::encoded_length(place::BC4_SIZE, width, height))
 }
 
 // The eight bytes of one block: that part of the caller's tile, or an empty part where `view_refusal` refuses.
@@ -160,12 +110,12 @@ pub fn block_view(tile: &[u8], width: usize, height: usize, column: usize, row: 
 {
     let checked = view_refusal(tile, width, height, column, row);
     match checked {
-        Checked::Refused(_) => &tile[0..0],
-        Checked::Passed => tile::block_part(place::BC4_SIZE, tile, width, column, row),
+        Err(_) => &tile[0..0],
+        Ok(()) => tile::block_part(place::BC4_SIZE, tile, width, column, row),
     }
 }
 
-pub fn view_refusal(tile: &[u8], width: usize, height: usize, column: usize, row: usize) -> Checked
+pub fn view_refusal(tile: &[u8], width: usize, height: usize, column: usize, row: usize) -> Result<(), Refusal>
     ensures { result ≡ first_of (view_checks (length tile.now) width height column row) }
 {
     refusal::view(tile, width, height, column, row)

@@ -3,8 +3,9 @@ ghost use Rattle.std.specs.Prelude.{◌≡◌, length};
 ghost use Rattle.bc4.specs.Calls.{out_after};
 ghost use Rattle.bc4.specs.Word.{options_of, quality_of, word_of, encode_by_word, resend_by_word, tile_by_word};
 
-use crate::{Encoded, Resent, Tiled};
+use crate::Kept;
 use options::{Options, Quantization};
+use refusal::Refusal;
 
 // The options of a malformed word matter only to what is checked before it: a resend with dither.
 #[derive(Clone, Copy)]
@@ -51,31 +52,31 @@ pub fn read(flags: u8, limit: u8, quality: u8, last: u8) -> Word
     }
 }
 
-pub fn encode_block(samples: &[f32], w: Word) -> Encoded
+pub fn encode_block(samples: &[f32], w: Word) -> Result<u64, Refusal>
     ensures { result ≡ encode_by_word samples.now w }
 {
     if w.malformed {
-        return Encoded::Refused(refusal::or_malformed(refusal::encode(samples)));
+        return Err(refusal::or_malformed(refusal::encode(samples)));
     }
     crate::encode_block(samples, w.options)
 }
 
-pub fn resend(samples: &[f32], held: &[u8], w: Word) -> Resent
+pub fn resend(samples: &[f32], held: &[u8], w: Word) -> Result<Kept, Refusal>
     ensures { result ≡ resend_by_word samples.now held.now w }
 {
     if w.malformed {
-        return Resent::Refused(refusal::or_malformed(refusal::resend(samples, held, w.options)));
+        return Err(refusal::or_malformed(refusal::resend(samples, held, w.options)));
     }
     crate::resend(samples, held, w.options)
 }
 
-pub fn encode_tile(samples: &[f32], width: usize, height: usize, w: Word, out: &mut [u8]) -> Tiled
+pub fn encode_tile(samples: &[f32], width: usize, height: usize, w: Word, out: &mut [u8]) -> Result<usize, Refusal>
     ensures answer { result ≡ tile_by_word samples.now width height w (length out.old) }
     ensures bytes { out.new ≡ out_after result samples.now width height w.options out.old }
 {
     if w.malformed {
         let checked = refusal::tile(samples, width, height, out.len());
-        return Tiled::Refused(refusal::or_malformed(checked));
+        return Err(refusal::or_malformed(checked));
     }
     crate::encode_tile(samples, width, height, w.options, out)
 }

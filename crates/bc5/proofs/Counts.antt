@@ -7,7 +7,7 @@ use lib.ListN.{length}
 use lib.Ieee.{Float}
 use borrow.Author.Tests.{ltb-false}
 use Rattle.place.specs.Place.{bad_size, bc5_size, encoded_length}
-use Rattle.refusal.specs.declared.Checked.TheVariants.{Passed}
+use Rattle.core.specs.declared.result.Result.TheVariants.{Ok}
 use Rattle.refusal.specs.Refusals.{Check, first_of, first_nan, length_check, room_check, size_checks}
 use Rattle.refusal.proofs.Firsts.{first_clear, both_passed, same_of}
 use Rattle.refusal.proofs.Sizes.{size_passed}
@@ -17,10 +17,10 @@ use Rattle.bc5.specs.Checks.{tile_nan_checks, counted, tile_checks}
 abbrev pub BothSixteen : List Float → List Float → Type 0
 BothSixteen first second = (length first ≡ 16) × (length second ≡ 16)
 
-pub both_sixteen : (first second : List Float) (rest : List Check) → first_of (counted first second 16 rest) ≡ Passed → BothSixteen first second
+pub both_sixteen : (first second : List Float) (rest : List Check) → first_of (counted first second 16 rest) ≡ Ok tt → BothSixteen first second
 both_sixteen first second rest passed = let c = first_clear (counted first second 16 rest) passed in (same_of _ _ c.0, same_of _ _ c.1.0)
 
-pub bytes_sixteen : (first second : List Float) (encoded : List ℕ) (rest : List Check) → first_of (counted first second 16 (length_check (length encoded) bc5_size ∷ rest)) ≡ Passed
+pub bytes_sixteen : (first second : List Float) (encoded : List ℕ) (rest : List Check) → first_of (counted first second 16 (length_check (length encoded) bc5_size ∷ rest)) ≡ Ok tt
     → length encoded ≡ bc5_size
 bytes_sixteen first second encoded rest passed = same_of _ _ (first_clear (counted first second 16 (length_check (length encoded) bc5_size ∷ rest)) passed).1.1.0
 
@@ -33,7 +33,7 @@ pub record Channels (first second : List Float) (width height most : ℕ) : Type
   pub first_real : length first ≤ first_nan first
   pub second_real : length second ≤ first_nan second
 
-pub tile_passed : (first second : List Float) (width height most : ℕ) → first_of (tile_checks first second width height most) ≡ Passed → Channels first second width height most
+pub tile_passed : (first second : List Float) (width height most : ℕ) → first_of (tile_checks first second width height most) ≡ Ok tt → Channels first second width height most
 tile_passed first second width height most passed =
     let rest = counted first second (width * height) (room_check most (encoded_length bc5_size width height) ∷ tile_nan_checks first second width) in
     let both = both_passed (size_checks width height) rest passed in

@@ -3,9 +3,8 @@ use mathlib.Core.Path.{sym, ◌∙◌}
 use mathlib.Core.List.{List}
 use Prim.Native.Nat.{ℕ}
 use lib.Ieee.{Float}
-use Rattle.refusal.specs.declared.Checked.{Checked}
-use Rattle.refusal.proofs.Outcomes.{One-answer, One-outcome}
-use Rattle.bc4.specs.declared.Tiled.{Tiled}
+use Rattle.refusal.specs.Refusals.{Answer, Checked}
+use Rattle.refusal.proofs.Outcomes.{One-answer, One-refusal_in}
 use Rattle.bc5.proofs.bytes.Kinds as bytes-kinds
 use Rattle.bc5.proofs.bytes.Reads as bytes
 use Rattle.bc5.proofs.encode_block.Kinds as encode-block-kinds
@@ -50,7 +49,7 @@ pub decode_determined : One-outcome 3 decode-block-kinds.ps decode-block-kinds.r
 decode_determined κs a x y s t p q = cc
 
 -- encode tile: the answer, and every byte of the output
-pub tile_determined : One-outcome 3 encode-tile-kinds.ps encode-tile-kinds.r encode-tile.Post (Tiled × List ℕ) (λ κs x s. (x, s.1.1.1.1.1.0.now))
+pub tile_determined : One-outcome 3 encode-tile-kinds.ps encode-tile-kinds.r encode-tile.Post (Answer ℕ × List ℕ) (λ κs x s. (x, s.1.1.1.1.1.0.now))
 tile_determined κs a x y s t p q = cc
 
 -- the same calls with a word for the options
@@ -60,7 +59,7 @@ word_encode_determined κs a x y s t p q = p ∙ sym q
 pub word_resend_determined : One-answer 3 word-resend-kinds.ps word-resend-kinds.r word-resend.Post
 word_resend_determined κs a x y s t p q = p ∙ sym q
 
-pub word_tile_determined : One-outcome 3 word-encode-tile-kinds.ps word-encode-tile-kinds.r word-encode-tile.Post (Tiled × List ℕ)
+pub word_tile_determined : One-outcome 3 word-encode-tile-kinds.ps word-encode-tile-kinds.r word-encode-tile.Post (Answer ℕ × List ℕ)
     (λ κs x s. (x, s.1.1.1.1.1.0.now))
 word_tile_determined κs a x y s t p q = cc
 

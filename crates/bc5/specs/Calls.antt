@@ -7,21 +7,12 @@ use Rattle.encode.specs.Encoder.{compressed}
 use Rattle.decode.specs.BlockError.{block_error}
 use Rattle.place.specs.Place.{bc4_size, bc5_size, encoded_length, block_at, all_bytes}
 use Rattle.tile.specs.Tile.{pair_bytes}
-use Rattle.refusal.specs.declared.Checked.{Checked}
-use Rattle.refusal.specs.declared.Checked.TheVariants.{Passed, Refused}
-use Rattle.refusal.specs.Refusals.{first_of, answered}
-use Rattle.bc4.specs.declared.Tiled.{Tiled}
-use Rattle.bc4.specs.declared.Tiled.TheVariants.{Written, Refused as NotTiled}
-use Rattle.bc4.specs.Calls.{of_tiled, better_of}
+use Rattle.core.specs.declared.result.Result.TheVariants.{Ok, Err}
+use Rattle.refusal.specs.Refusals.{Answer, Checked, refusal_in, first_of, answered}
+use Rattle.bc4.specs.Calls.{better_of}
 use Rattle.bc5.specs.declared.Halves.{Halves}
-use Rattle.bc5.specs.declared.Encoded.{Encoded}
-use Rattle.bc5.specs.declared.Encoded.TheVariants.{Block, Refused as NotEncoded}
 use Rattle.bc5.specs.declared.Errors.{Errors as BothErrors}
-use Rattle.bc5.specs.declared.Scored.{Scored}
-use Rattle.bc5.specs.declared.Scored.TheVariants.{Errors, Refused as NotScored}
 use Rattle.bc5.specs.declared.Kept.{Kept}
-use Rattle.bc5.specs.declared.Resent.{Resent}
-use Rattle.bc5.specs.declared.Resent.TheVariants.{Block as Answered, Refused as NotResent}
 use Rattle.bc5.specs.Checks.{encode_checks, error_checks, resend_checks, tile_checks, view_checks}
 
 -- ---- sixteen bytes: the first channel's eight, and then the second's
@@ -34,49 +25,36 @@ second_half encoded = take bc4_size (drop bc4_size encoded)
 abbrev pub halves_bytes : Halves → List ℕ
 halves_bytes block = bytes_of block.first ++ bytes_of block.second
 
--- ---- the refusal of an answer, or none
-abbrev pub of_encoded : Encoded → Checked
-of_encoded (Block b) = Passed
-of_encoded (NotEncoded q) = Refused q
-
-abbrev pub of_scored : Scored → Checked
-of_scored (Errors e) = Passed
-of_scored (NotScored q) = Refused q
-
-abbrev pub of_resent : Resent → Checked
-of_resent (Answered h) = Passed
-of_resent (NotResent q) = Refused q
-
 -- ---- encode block
 abbrev pub coded_of : List Float → List Float → Options → Halves
 coded_of first second o = record { first = compressed first o; second = compressed second o }
 
-abbrev pub encode_answer : List Float → List Float → Options → Encoded
-encode_answer first second o = answered NotEncoded (Block (coded_of first second o)) (first_of (encode_checks first second))
+abbrev pub encode_answer : List Float → List Float → Options → Answer Halves
+encode_answer first second o = answered Err (Ok (coded_of first second o)) (first_of (encode_checks first second))
 
 -- ---- block error, of each channel
 abbrev pub scores_of : List Float → List Float → List ℕ → Bool → BothErrors
 scores_of first second encoded snorm = record { first = block_error first (from_bytes (first_half encoded)) snorm; second = block_error second (from_bytes (second_half encoded)) snorm }
 
-abbrev pub error_answer : List Float → List Float → List ℕ → Bool → Scored
-error_answer first second encoded snorm = answered NotScored (Errors (scores_of first second encoded snorm)) (first_of (error_checks first second encoded))
+abbrev pub error_answer : List Float → List Float → List ℕ → Bool → Answer BothErrors
+error_answer first second encoded snorm = answered Err (Ok (scores_of first second encoded snorm)) (first_of (error_checks first second encoded))
 
 -- ---- resend: each half by itself
 abbrev pub kept_of : List Float → List Float → List ℕ → Options → Kept
 kept_of first second held o = record { first = better_of first (from_bytes (first_half held)) o; second = better_of second (from_bytes (second_half held)) o }
 
-abbrev pub resend_answer : List Float → List Float → List ℕ → Options → Resent
-resend_answer first second held o = answered NotResent (Answered (kept_of first second held o)) (first_of (resend_checks first second held o))
+abbrev pub resend_answer : List Float → List Float → List ℕ → Options → Answer Kept
+resend_answer first second held o = answered Err (Ok (kept_of first second held o)) (first_of (resend_checks first second held o))
 
 -- ---- encode tile; `room` is the length of the output
-abbrev pub tile_answer : List Float → List Float → ℕ → ℕ → ℕ → Tiled
+abbrev pub tile_answer : List Float → List Float → ℕ → ℕ → ℕ → Answer ℕ
 tile_answer first second width height room =
-    answered NotTiled (Written (encoded_length bc5_size width height)) (first_of (tile_checks first second width height room))
+    answered Err (Ok (encoded_length bc5_size width height)) (first_of (tile_checks first second width height room))
 
 -- the output after the call: the blocks, and then what was there before
-abbrev pub out_after : Tiled → List Float → List Float → ℕ → ℕ → Options → List ℕ → List ℕ
+abbrev pub out_after : Answer ℕ → List Float → List Float → ℕ → ℕ → Options → List ℕ → List ℕ
 out_after answer first second width height o before =
-    answered (λ q. before) (all_bytes (pair_bytes first second width o) width height ++ drop (encoded_length bc5_size width height) before) (of_tiled answer)
+    answered (λ q. before) (all_bytes (pair_bytes first second width o) width height ++ drop (encoded_length bc5_size width height) before) (refusal_in answer)
 
 -- ---- block view
 abbrev pub view_of : List ℕ → ℕ → ℕ → ℕ → ℕ → List ℕ

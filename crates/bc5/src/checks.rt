@@ -4,102 +4,91 @@ ghost use Rattle.refusal.specs.Refusals.{first_of};
 ghost use Rattle.bc5.specs.Checks.{nan_checks, tile_nan_checks, encode_checks, decode_checks, error_checks, resend_checks, tile_checks};
 
 use bc4::Options;
-use refusal::{Channel, Checked, Fault, Refusal};
+use refusal::{Channel, Fault, Refusal};
 
-fn no_nans(first: &[f32], second: &[f32]) -> Checked
+fn no_nans(first: &[f32], second: &[f32]) -> Result<(), Refusal>
     ensures { result ≡ first_of (nan_checks first.now second.now) }
 {
-    let checked = refusal::no_nan_in(Channel::First, first);
-    match checked {
-        Checked::Refused(q) => Checked::Refused(q),
-        Checked::Passed => refusal::no_nan_in(Channel::Second, second),
-    }
+    refusal::no_nan_in(Channel::First, first)?;
+    refusal::no_nan_in(Channel::Second, second)
 }
 
-fn no_tile_nans(first: &[f32], second: &[f32], width: usize) -> Checked
+fn no_tile_nans(first: &[f32], second: &[f32], width: usize) -> Result<(), Refusal>
     requires { 0 < width }
     ensures { result ≡ first_of (tile_nan_checks first.now second.now width) }
 {
-    let checked = refusal::no_tile_nan_in(Channel::First, first, width);
-    match checked {
-        Checked::Refused(q) => Checked::Refused(q),
-        Checked::Passed => refusal::no_tile_nan_in(Channel::Second, second, width),
-    }
+    refusal::no_tile_nan_in(Channel::First, first, width)?;
+    refusal::no_tile_nan_in(Channel::Second, second, width)
 }
 
-pub fn encode(first: &[f32], second: &[f32]) -> Checked
+pub fn encode(first: &[f32], second: &[f32]) -> Result<(), Refusal>
     ensures { result ≡ first_of (encode_checks first.now second.now) }
 {
     if first.len() != 16 {
-        return Checked::Refused(Refusal::InChannel(Fault::Count(Channel::First)));
+        return Err(Refusal::InChannel(Fault::Count(Channel::First)));
     }
     if second.len() != 16 {
-        return Checked::Refused(Refusal::InChannel(Fault::Count(Channel::Second)));
+        return Err(Refusal::InChannel(Fault::Count(Channel::Second)));
     }
     no_nans(first, second)
 }
 
-pub fn decode(encoded: &[u8]) -> Checked
+pub fn decode(encoded: &[u8]) -> Result<(), Refusal>
     ensures { result ≡ first_of (decode_checks encoded.now) }
 {
     if encoded.len() != place::BC5_SIZE {
-        return Checked::Refused(Refusal::EncodedLength);
+        return Err(Refusal::EncodedLength);
     }
-    Checked::Passed
+    Ok(())
 }
 
-pub fn error(first: &[f32], second: &[f32], encoded: &[u8]) -> Checked
+pub fn error(first: &[f32], second: &[f32], encoded: &[u8]) -> Result<(), Refusal>
     ensures { result ≡ first_of (error_checks first.now second.now encoded.now) }
 {
     if first.len() != 16 {
-        return Checked::Refused(Refusal::InChannel(Fault::Count(Channel::First)));
+        return Err(Refusal::InChannel(Fault::Count(Channel::First)));
     }
     if second.len() != 16 {
-        return Checked::Refused(Refusal::InChannel(Fault::Count(Channel::Second)));
+        return Err(Refusal::InChannel(Fault::Count(Channel::Second)));
     }
     if encoded.len() != place::BC5_SIZE {
-        return Checked::Refused(Refusal::EncodedLength);
+        return Err(Refusal::EncodedLength);
     }
     no_nans(first, second)
 }
 
-pub fn resend(first: &[f32], second: &[f32], held: &[u8], o: Options) -> Checked
+pub fn resend(first: &[f32], second: &[f32], held: &[u8], o: Options) -> Result<(), Refusal>
     ensures { result ≡ first_of (resend_checks first.now second.now held.now o) }
 {
     if first.len() != 16 {
-        return Checked::Refused(Refusal::InChannel(Fault::Count(Channel::First)));
+        return Err(Refusal::InChannel(Fault::Count(Channel::First)));
     }
     if second.len() != 16 {
-        return Checked::Refused(Refusal::InChannel(Fault::Count(Channel::Second)));
+        return Err(Refusal::InChannel(Fault::Count(Channel::Second)));
     }
     if held.len() != place::BC5_SIZE {
-        return Checked::Refused(Refusal::EncodedLength);
+        return Err(Refusal::EncodedLength);
     }
     if o.dither {
-        return Checked::Refused(Refusal::DitheredResend);
+        return Err(Refusal::DitheredResend);
     }
     no_nans(first, second)
 }
 
 // `room` is the length of the output.
-pub fn tile(first: &[f32], second: &[f32], width: usize, height: usize, room: usize) -> Checked
+pub fn tile(first: &[f32], second: &[f32], width: usize, height: usize, room: usize) -> Result<(), Refusal>
     ensures { result ≡ first_of (tile_checks first.now second.now width height room) }
 {
-    let checked = refusal::size(width, height);
-    match checked {
-        Checked::Refused(q) => Checked::Refused(q),
-        Checked::Passed => {
-            let area = width * height;
-            if first.len() != area {
-                return Checked::Refused(Refusal::InChannel(Fault::Count(Channel::First)));
-            }
-            if second.len() != area {
-                return Checked::Refused(Refusal::InChannel(Fault::Count(Channel::Second)));
-            }
-            if room < place::encoded_length(place::BC5_SIZE, width, height) {
-                return Checked::Refused(Refusal::OutputLength);
-            }
-            no_tile_nans(first, second, width)
-        }
+    refusal::size(width, height)?;
+    let area = width * height;
+    if first.len() != area {
+        return Err(Refusal::InChannel(Fault::Count(Channel::First)));
     }
+    if second.len() != area {
+        return Err(Refusal::InChannel(Fault::Count(Channel::Second)));
+    }
+    if room < place::encoded_length(place::BC5_SIZE, width, height) {
+        return Err(Refusal::OutputLength);
+    }
+    no_tile_nans(first, second, width)
 }

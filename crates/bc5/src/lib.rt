@@ -11,7 +11,7 @@ ghost use Rattle.bc5.specs.Calls.{first_half, second_half, halves_bytes, encode_
 mod checks;
 pub mod word;
 
-pub use bc4::{Checked, Options, Quantization, Refusal, Tiled};
+pub use bc4::{Options, Quantization, Refusal};
 pub use refusal::{Channel, Fault};
 
 // A block: its two halves, each as `bc4` hands it back.
@@ -21,12 +21,6 @@ pub struct Halves {
     pub second: u64,
 }
 
-#[derive(Clone, Copy)]
-pub enum Encoded {
-    Block(Halves),
-    Refused(Refusal),
-}
-
 // The block error of each channel.
 #[derive(Clone, Copy)]
 pub struct Errors {
@@ -34,23 +28,11 @@ pub struct Errors {
     pub second: f32,
 }
 
-#[derive(Clone, Copy)]
-pub enum Scored {
-    Errors(Errors),
-    Refused(Refusal),
-}
-
 // The halves to hold from now on, and of each whether it is the fresh one.
 #[derive(Clone, Copy)]
 pub struct Kept {
     pub first: bc4::Kept,
     pub second: bc4::Kept,
-}
-
-#[derive(Clone, Copy)]
-pub enum Resent {
-    Block(Kept),
-    Refused(Refusal),
 }
 
 // The sixteen bytes of a block, in order.
@@ -65,21 +47,16 @@ pub fn bytes(block: Halves) -> [u8; 16]
     ]
 }
 
-pub fn encode_block(first: &[f32], second: &[f32], o: Options) -> Encoded
+pub fn encode_block(first: &[f32], second: &[f32], o: Options) -> Result<Halves, Refusal>
     ensures { result ≡ encode_answer first.now second.now o }
 {
-    let checked = checks::encode(first, second);
-    match checked {
-        Checked::Refused(q) => Encoded::Refused(q),
-        Checked::Passed => {
-            let a = place::gather(first, 4, 0, 0);
-            let b = place::gather(second, 4, 0, 0);
-            Encoded::Block(Halves {
-                first: encode::compress_bc4_block(&a, o),
-                second: encode::compress_bc4_block(&b, o),
-            })
-        }
-    }
+    checks::encode(first, second)?;
+    let a = place::gather(first, 4, 0, 0);
+    let b = place::gather(second, 4, 0, 0);
+    Ok(Halves {
+        first: encode::compress_bc4_block(&a, o),
+        second: encode::compress_bc4_block(&b, o),
+    })
 }
 
 // Sixteen samples of each channel into the caller's arrays, which stay as they were on a refusal.
@@ -88,58 +65,43 @@ pub fn decode_block(
     snorm: bool,
     first: &mut [f32; 16],
     second: &mut [f32; 16],
-) -> Checked
+) -> Result<(), Refusal>
     ensures answer { result ≡ first_of (decode_checks encoded.now) }
     ensures first { first.new ≡ samples_after result (first_half encoded.now) snorm first.old }
     ensures second { second.new ≡ samples_after result (second_half encoded.now) snorm second.old }
 {
-    let checked = checks::decode(encoded);
-    match checked {
-        Checked::Refused(q) => Checked::Refused(q),
-        Checked::Passed => {
-            decode::decode_into(index_list::from_bytes(&encoded[0..8]), snorm, first);
-            decode::decode_into(index_list::from_bytes(&encoded[8..16]), snorm, second);
-            Checked::Passed
-        }
-    }
+    checks::decode(encoded)?;
+    decode::decode_into(index_list::from_bytes(&encoded[0..8]), snorm, first);
+    decode::decode_into(index_list::from_bytes(&encoded[8..16]), snorm, second);
+    Ok(())
 }
 
-pub fn block_error(first: &[f32], second: &[f32], encoded: &[u8], snorm: bool) -> Scored
+pub fn block_error(first: &[f32], second: &[f32], encoded: &[u8], snorm: bool) -> Result<Errors, Refusal>
     ensures { result ≡ error_answer first.now second.now encoded.now snorm }
 {
-    let checked = checks::error(first, second, encoded);
-    match checked {
-        Checked::Refused(q) => Scored::Refused(q),
-        Checked::Passed => {
-            let a = place::gather(first, 4, 0, 0);
-            let b = place::gather(second, 4, 0, 0);
-            Scored::Errors(Errors {
-                first: decode::block_error(&a, index_list::from_bytes(&encoded[0..8]), snorm),
-                second: decode::block_error(&b, index_list::from_bytes(&encoded[8..16]), snorm),
-            })
-        }
-    }
+    checks::error(first, second, encoded)?;
+    let a = place::gather(first, 4, 0, 0);
+    let b = place::gather(second, 4, 0, 0);
+    Ok(Errors {
+        first: decode::block_error(&a, index_list::from_bytes(&encoded[0..8]), snorm),
+        second: decode::block_error(&b, index_list::from_bytes(&encoded[8..16]), snorm),
+    })
 }
 
 // Each half by itself: the fresh one exactly when its block error is strictly below that of the held one.
-pub fn resend(first: &[f32], second: &[f32], held: &[u8], o: Options) -> Resent
+pub fn resend(first: &[f32], second: &[f32], held: &[u8], o: Options) -> Result<Kept, Refusal>
     ensures { result ≡ resend_answer first.now second.now held.now o }
 {
-    let checked = checks::resend(first, second, held, o);
-    match checked {
-        Checked::Refused(q) => Resent::Refused(q),
-        Checked::Passed => {
-            let a = place::gather(first, 4, 0, 0);
-            let b = place::gather(second, 4, 0, 0);
-            Resent::Block(Kept {
-                first: bc4::better(&a, index_list::from_bytes(&held[0..8]), o),
-                second: bc4::better(&b, index_list::from_bytes(&held[8..16]), o),
-            })
-        }
-    }
+    checks::resend(first, second, held, o)?;
+    let a = place::gather(first, 4, 0, 0);
+    let b = place::gather(second, 4, 0, 0);
+    Ok(Kept {
+        first: bc4::better(&a, index_list::from_bytes(&held[0..8]), o),
+        second: bc4::better(&b, index_list::from_bytes(&held[8..16]), o),
+    })
 }
 
-// The blocks of a tile, row by row from the top left, into the first width * height bytes of `out`. Later bytes stay.
+// The blocks of a tile, row by row from the top left, into the first width * height bytes of `out`: how many were written. Later bytes stay.
 pub fn encode_tile(
     first: &[f32],
     second: &[f32],
@@ -147,18 +109,13 @@ pub fn encode_tile(
     height: usize,
     o: Options,
     out: &mut [u8],
-) -> Tiled
+) -> Result<usize, Refusal>
     ensures answer { result ≡ tile_answer first.now second.now width height (length out.old) }
     ensures bytes { out.new ≡ out_after result first.now second.now width height o out.old }
 {
-    let checked = checks::tile(first, second, width, height, out.len());
-    match checked {
-        Checked::Refused(q) => Tiled::Refused(q),
-        Checked::Passed => {
-            tile::encode_pairs(first, second, width, height, o, out);
-            Tiled::Written(place::encoded_length(place::BC5_SIZE, width, height))
-        }
-    }
+    checks::tile(first, second, width, height, out.len())?;
+    tile::encode_pairs(first, second, width, height, o, out);
+    Ok(place::encoded_length(place::BC5_SIZE, width, height))
 }
 
 // The sixteen bytes of one block: that part of the caller's tile, or an empty part where `view_refusal` refuses.
@@ -167,12 +124,12 @@ pub fn block_view(tile: &[u8], width: usize, height: usize, column: usize, row: 
 {
     let checked = view_refusal(tile, width, height, column, row);
     match checked {
-        Checked::Refused(_) => &tile[0..0],
-        Checked::Passed => tile::block_part(place::BC5_SIZE, tile, width, column, row),
+        Err(_) => &tile[0..0],
+        Ok(()) => tile::block_part(place::BC5_SIZE, tile, width, column, row),
     }
 }
 
-pub fn view_refusal(tile: &[u8], width: usize, height: usize, column: usize, row: usize) -> Checked
+pub fn view_refusal(tile: &[u8], width: usize, height: usize, column: usize, row: usize) -> Result<(), Refusal>
     ensures { result ≡ first_of (view_checks (length tile.now) width height column row) }
 {
     refusal::view_of(place::BC5_SIZE, tile.len(), width, height, column, row)

@@ -2,8 +2,8 @@
 use mathlib.Core.Path.{sym, ◌∙◌}
 use mathlib.Core.List.{List}
 use Prim.Native.Nat.{ℕ}
-use Rattle.refusal.proofs.Outcomes.{One-answer, One-outcome}
-use Rattle.dds.specs.declared.Written.{Written}
+use Rattle.refusal.proofs.Outcomes.{One-answer, One-refusal_in}
+use Rattle.refusal.specs.Refusals.{Answer}
 use Rattle.dds.proofs.write.Kinds as write-kinds
 use Rattle.dds.proofs.write.Reads as write
 use Rattle.dds.proofs.read.Kinds as read-kinds
@@ -14,7 +14,7 @@ use Rattle.dds.proofs.body.Kinds as body-kinds
 use Rattle.dds.proofs.body.Reads as body
 
 -- the answer, and every byte of the output
-pub write_determined : One-outcome 2 write-kinds.ps write-kinds.r write.Post (Written × List ℕ) (λ κs x s. (x, s.1.1.1.1.0.now))
+pub write_determined : One-outcome 2 write-kinds.ps write-kinds.r write.Post (Answer ℕ × List ℕ) (λ κs x s. (x, s.1.1.1.1.0.now))
 write_determined κs a x y s t p q = cc
 
 pub read_determined : One-answer 1 read-kinds.ps read-kinds.r read.Post

@@ -7,7 +7,7 @@ use native.Mathlib.Omega.{arith}
 use lib.Dec.{ltb}
 use lib.ListN.{length}
 use borrow.Author.Tests.{ltb-false}
-use Rattle.refusal.specs.declared.Checked.TheVariants.{Passed}
+use Rattle.core.specs.declared.result.Result.TheVariants.{Ok}
 use Rattle.refusal.specs.Refusals.{first_of}
 use Rattle.refusal.proofs.Firsts.{first_clear}
 use Rattle.dds.specs.Layout.{header_length, extended_length, extended, body_at, Whole}
@@ -20,7 +20,7 @@ second_false false b e t = absurd (let z : ◌≡◌ {A = ℕ} 0 1 = cc in omega
 pub whole : (file : List ℕ) → header_length ≤ length file → extended file && ltb (length file) extended_length ≡ false → Whole file
 whole file h e = record { header = h; extension = λ t. ltb-false (length file) extended_length (second_false (extended file) _ e t) }
 
-pub read_whole : (file : List ℕ) → first_of (read_checks file) ≡ Passed → Whole file
+pub read_whole : (file : List ℕ) → first_of (read_checks file) ≡ Ok tt → Whole file
 read_whole file passed =
     let clear = first_clear (read_checks file) passed in
     whole file (ltb-false (length file) header_length clear.0) clear.1.0

@@ -11,11 +11,10 @@ use borrow.Author.Tests.{le-ltb, eq-eqb}
 use Rattle.fields.specs.Fields.{field_at}
 use Rattle.place.specs.Place.{bad_size, bc4_size, encoded_length}
 use Rattle.place.proofs.Places.{size_good}
-use Rattle.refusal.specs.declared.Checked.TheVariants.{Passed}
+use Rattle.core.specs.declared.result.Result.TheVariants.{Ok}
 use Rattle.refusal.specs.Refusals.{first_of}
 use Rattle.refusal.proofs.Firsts.{first_clear, clear_passed, passed_before}
 use Rattle.refusal.proofs.Sizes.{good_passes}
-use Rattle.dds.specs.declared.Found.TheVariants.{File}
 use Rattle.dds.specs.Layout.{header_length, bc4u, bc4s, dx10, unsigned_format, signed_format, header_fields, file_of, height_in, width_in, four_characters_in, extended, format_in, array_size_in, body_at}
 use Rattle.dds.specs.Checks.{is_not, side_checks, body_checks, read_checks}
 use Rattle.dds.specs.Calls.{picture_in, read_answer, body_of}
@@ -77,15 +76,15 @@ module _ (tile : List ℕ) (width height : ℕ) (snorm : Bool) (good : bad_size 
   unfolding body_at
   starts = rw plain
 
-  size_back : first_of (side_checks file) ≡ Passed
+  size_back : first_of (side_checks file) ≡ Ok tt
   size_back = rw (width_back, height_back) (good_passes width height good)
 
-  body_back : first_of (body_checks file) ≡ Passed
+  body_back : first_of (body_checks file) ≡ Ok tt
   body_back =
       let size = file_length tile width height snorm in
       clear_passed (body_checks file) (rw (starts, width_back, height_back) (ap not (eq-eqb (length file) _ (size ∙ ap (λ n. header_length + n) long))), tt)
 
-  passes : first_of (read_checks file) ≡ Passed
+  passes : first_of (read_checks file) ≡ Ok tt
   passes =
       let size = file_length tile width height snorm in
       let rest = first_clear (side_checks file ++ body_checks file) (passed_before (side_checks file) (body_checks file) size_back ∙ body_back) in
@@ -109,6 +108,6 @@ module _ (tile : List ℕ) (width height : ℕ) (snorm : Bool) (good : bad_size 
         ),
       )
 
-  pub read_back : (read_answer file ≡ File (record { width = width; height = height; snorm = snorm; start = header_length })) × (body_of file ≡ tile)
+  pub read_back : (read_answer file ≡ Ok (record { width = width; height = height; snorm = snorm; start = header_length })) × (body_of file ≡ tile)
   unfolding picture_in
   read_back = (rw (passes, width_back, height_back, format_back, starts, signed_format_lem snorm) refl, rw (passes, starts) (file_body tile width height snorm))

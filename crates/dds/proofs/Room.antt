@@ -5,7 +5,7 @@ use mathlib.Core.List.{[], ◌∷◌}
 use Prim.Native.Nat.{ℕ, ◌+◌, ◌≤◌}
 use borrow.Author.Tests.{ltb-false}
 use Rattle.place.specs.Place.{bad_size, bc4_size, encoded_length}
-use Rattle.refusal.specs.declared.Checked.TheVariants.{Passed}
+use Rattle.core.specs.declared.result.Result.TheVariants.{Ok}
 use Rattle.refusal.specs.Refusals.{first_of, room_check, bytes_checks}
 use Rattle.refusal.proofs.Firsts.{first_clear, both_passed}
 use Rattle.refusal.proofs.Tiles.{bytes_passed}
@@ -17,7 +17,7 @@ pub record Room (long width height most : ℕ) : Type 0 where
   pub tile : long ≡ encoded_length bc4_size width height
   pub out : header_length + encoded_length bc4_size width height ≤ most
 
-pub room : (long width height most : ℕ) → first_of (write_checks long width height most) ≡ Passed → Room long width height most
+pub room : (long width height most : ℕ) → first_of (write_checks long width height most) ≡ Ok tt → Room long width height most
 room long width height most passed =
     let rest = room_check most (header_length + encoded_length bc4_size width height) ∷ [] in
     let both = both_passed (bytes_checks long width height) rest passed in

@@ -9,14 +9,7 @@ ghost use Rattle.dds.specs.Calls.{write_answer, file_after, picture_in, read_ans
 mod header;
 mod reading;
 
-use refusal::{Checked, Refusal};
-
-#[derive(Clone, Copy)]
-pub enum Written {
-    // The file is so many bytes.
-    Bytes(usize),
-    Refused(Refusal),
-}
+use refusal::Refusal;
 
 // The tile that a file holds, and where its bytes start.
 #[derive(Clone, Copy)]
@@ -27,53 +20,34 @@ pub struct Picture {
     pub start: usize,
 }
 
-#[derive(Clone, Copy)]
-pub enum Found {
-    File(Picture),
-    Refused(Refusal),
-}
-
-fn write_refusal(long: usize, width: usize, height: usize, room: usize) -> Checked
+fn write_refusal(long: usize, width: usize, height: usize, room: usize) -> Result<(), Refusal>
     ensures { result ≡ first_of (write_checks long width height room) }
 {
-    let checked = refusal::tile_bytes(long, width, height);
-    match checked {
-        Checked::Refused(q) => Checked::Refused(q),
-        Checked::Passed => {
-            if room < header::LENGTH + long {
-                return Checked::Refused(Refusal::OutputLength);
-            }
-            Checked::Passed
-        }
+    refusal::tile_bytes(long, width, height)?;
+    if room < header::LENGTH + long {
+        return Err(Refusal::OutputLength);
     }
+    Ok(())
 }
 
-// The file of a tile, into the first 128 + width * height / 2 bytes of `out`. Later bytes stay.
-pub fn write(tile: &[u8], width: usize, height: usize, snorm: bool, out: &mut [u8]) -> Written
+// The file of a tile, into the first 128 + width * height / 2 bytes of `out`: how many it takes. Later bytes stay.
+pub fn write(tile: &[u8], width: usize, height: usize, snorm: bool, out: &mut [u8]) -> Result<usize, Refusal>
     ensures answer { result ≡ write_answer (length tile.now) width height (length out.old) }
     ensures bytes { out.new ≡ file_after result tile.now width height snorm out.old }
 {
-    let checked = write_refusal(tile.len(), width, height, out.len());
-    match checked {
-        Checked::Refused(q) => Written::Refused(q),
-        Checked::Passed => {
-            header::put(width, height, snorm, out);
-            let end = header::LENGTH + tile.len();
-            out[header::LENGTH..end].copy_from_slice(tile);
-            Written::Bytes(end)
-        }
-    }
+    write_refusal(tile.len(), width, height, out.len())?;
+    header::put(width, height, snorm, out);
+    let end = header::LENGTH + tile.len();
+    out[header::LENGTH..end].copy_from_slice(tile);
+    Ok(end)
 }
 
 // Size and format of the tile that a file holds.
-pub fn read(file: &[u8]) -> Found
+pub fn read(file: &[u8]) -> Result<Picture, Refusal>
     ensures { result ≡ read_answer file.now }
 {
-    let checked = read_refusal(file);
-    match checked {
-        Checked::Refused(q) => Found::Refused(q),
-        Checked::Passed => Found::File(reading::picture(file)),
-    }
+    read_refusal(file)?;
+    Ok(reading::picture(file))
 }
 
 // The tile's bytes: that part of the caller's file, or an empty part where `read_refusal` refuses.
@@ -82,15 +56,15 @@ pub fn body(file: &[u8]) -> &[u8]
 {
     let checked = read_refusal(file);
     match checked {
-        Checked::Refused(_) => &file[0..0],
-        Checked::Passed => {
+        Err(_) => &file[0..0],
+        Ok(()) => {
             let start = reading::body_at(file);
             &file[start..]
         }
     }
 }
 
-pub fn read_refusal(file: &[u8]) -> Checked
+pub fn read_refusal(file: &[u8]) -> Result<(), Refusal>
     ensures { result ≡ first_of (read_checks file.now) }
 {
     reading::cut(file)

@@ -6,12 +6,12 @@ ghost use Rattle.dds.specs.Checks.{read_checks, mark_checks, format_checks, pict
 ghost use Rattle.dds.specs.Calls.{picture_in};
 
 use crate::{Picture, header};
-use refusal::{Checked, Field, Refusal};
+use refusal::{Field, Refusal};
 
-fn wrong(field: Field) -> Checked
+fn wrong(field: Field) -> Result<(), Refusal>
     ensures { result ≡ Checked.Refused (Refusal.DdsHeader field) }
 {
-    Checked::Refused(Refusal::DdsHeader(field))
+    Err(Refusal::DdsHeader(field))
 }
 
 // ---- fields of the extension, and what stands for them in a file without it
@@ -69,7 +69,7 @@ pub fn picture(file: &[u8]) -> Picture
 }
 
 // ---- 11
-pub fn cut(file: &[u8]) -> Checked
+pub fn cut(file: &[u8]) -> Result<(), Refusal>
     ensures { result ≡ first_of (read_checks file.now) }
 {
     if file.len() < header::LENGTH {
@@ -82,7 +82,7 @@ pub fn cut(file: &[u8]) -> Checked
 }
 
 // 12
-fn mark(file: &[u8]) -> Checked
+fn mark(file: &[u8]) -> Result<(), Refusal>
     requires { Whole file.now }
     ensures { let f = file.now in result ≡ first_of (mark_checks f ++ format_checks f ++ picture_checks f ++ side_checks f ++ body_checks f) }
 {
@@ -96,7 +96,7 @@ fn mark(file: &[u8]) -> Checked
 }
 
 // 13
-fn format(file: &[u8]) -> Checked
+fn format(file: &[u8]) -> Result<(), Refusal>
     requires { Whole file.now }
     ensures { let f = file.now in result ≡ first_of (format_checks f ++ picture_checks f ++ side_checks f ++ body_checks f) }
 {
@@ -112,7 +112,7 @@ fn format(file: &[u8]) -> Checked
 }
 
 // 14
-fn pictures(file: &[u8]) -> Checked
+fn pictures(file: &[u8]) -> Result<(), Refusal>
     requires { Whole file.now }
     ensures { let f = file.now in result ≡ first_of (picture_checks f ++ side_checks f ++ body_checks f) }
 {
@@ -132,20 +132,15 @@ fn pictures(file: &[u8]) -> Checked
 }
 
 // 1, 9, 10, and 15
-fn sides(file: &[u8]) -> Checked
+fn sides(file: &[u8]) -> Result<(), Refusal>
     requires { Whole file.now }
     ensures { let f = file.now in result ≡ first_of (side_checks f ++ body_checks f) }
 {
     let width = fields::read_u32(file, 16) as usize;
     let height = fields::read_u32(file, 12) as usize;
-    let checked = refusal::size(width, height);
-    match checked {
-        Checked::Refused(q) => Checked::Refused(q),
-        Checked::Passed => {
-            if file.len() != body_at(file) + place::encoded_length(place::BC4_SIZE, width, height) {
-                return Checked::Refused(Refusal::DdsBody);
-            }
-            Checked::Passed
-        }
+    refusal::size(width, height)?;
+    if file.len() != body_at(file) + place::encoded_length(place::BC4_SIZE, width, height) {
+        return Err(Refusal::DdsBody);
     }
+    Ok(())
 }

@@ -14,12 +14,9 @@ use Rattle.floats.proofs.Tests.{clash}
 use Rattle.floats.proofs.Table.{all, at}
 use Rattle.place.specs.Place.{bad_size, bc4_size, encoded_length}
 use Rattle.place.proofs.Places.{size_small}
-use Rattle.refusal.specs.declared.Checked.{Checked}
-use Rattle.refusal.specs.declared.Checked.TheVariants.{Passed, Refused}
-use Rattle.refusal.specs.Refusals.{first_of, answered}
+use Rattle.core.specs.declared.result.Result.TheVariants.{Ok, Err}
+use Rattle.refusal.specs.Refusals.{Checked, first_of, answered}
 use Rattle.refusal.proofs.Firsts.{first_clear, both_passed, same_of}
-use Rattle.dds.specs.declared.Written.TheVariants.{Bytes, Refused as NotWritten}
-use Rattle.dds.specs.declared.Found.TheVariants.{File, Refused as NotFound}
 use Rattle.dds.specs.declared.Picture.{Picture}
 use Rattle.dds.specs.Layout.{header_length, bc4s, dx10, unsigned_format, signed_format, header_fields, header_field, file_of, width_in, height_in, extended, format_in, array_size_in, body_at}
 use Rattle.dds.specs.Checks.{write_checks, cut_checks, mark_checks, format_checks, picture_checks, side_checks, body_checks, read_checks}
@@ -38,17 +35,17 @@ record Accepted (tile : List ℕ) (width height n : ℕ) : Type 0 where
   long : length tile ≡ encoded_length bc4_size width height
   count : n ≡ 128 + length tile
 
-accepted : (tile : List ℕ) (width height most n : ℕ) → write_answer (length tile) width height most ≡ Bytes n → Accepted tile width height n
+accepted : (tile : List ℕ) (width height most n : ℕ) → write_answer (length tile) width height most ≡ Ok n → Accepted tile width height n
 accepted tile width height most n e = go (first_of (write_checks (length tile) width height most)) refl e
   where
-    go : (c : Checked) → first_of (write_checks (length tile) width height most) ≡ c → answered NotWritten (Bytes (header_length + encoded_length bc4_size width height)) c ≡ Bytes n
+    go : (c : Checked) → first_of (write_checks (length tile) width height most) ≡ c → answered Err (Ok (header_length + encoded_length bc4_size width height)) c ≡ Ok n
         → Accepted tile width height n
-    go Passed p e =
+    go (Ok tt) p e =
         let r = room (length tile) width height most p in
         let count : header_length + encoded_length bc4_size width height ≡ n = cc in
         let long = r.tile in
         record { good = r.good; long = long; count = omega arith }
-    go (Refused q) p e = absurd (let z : ◌≡◌ {A = ℕ} 0 1 = cc in omega arith)
+    go (Err q) p e = absurd (let z : ◌≡◌ {A = ℕ} 0 1 = cc in omega arith)
 
 -- ---- zero elsewhere
 abbrev listed : ℕ → List ℕ → Bool
@@ -166,12 +163,12 @@ module _ (file : List ℕ) where
   unfolding body_at
   starts = (λ e. rw (eq-eqb (four file) dx10 e), λ n. rw (ne_eqb (four file) dx10 n))
 
-  says : (p : Picture) → read_answer file ≡ File p → Says file p
+  says : (p : Picture) → read_answer file ≡ Ok p → Says file p
   unfolding picture_in
   says p e = go (first_of (read_checks file)) refl e
     where
-      go : (c : Checked) → first_of (read_checks file) ≡ c → answered NotFound (File (picture_in file)) c ≡ File p → Says file p
-      go Passed passed e =
+      go : (c : Checked) → first_of (read_checks file) ≡ c → answered Err (Ok (picture_in file)) c ≡ Ok p → Says file p
+      go (Ok tt) passed e =
           let same : picture_in file ≡ p = cc in
           let before = cut_checks file ++ mark_checks file ++ format_checks file ++ picture_checks file in
           let sides = (both_passed before (side_checks file ++ body_checks file) passed).1 in
@@ -186,7 +183,7 @@ module _ (file : List ℕ) where
             body = rw passed;
             body_length = rw passed (simp length-drop (omega (arith, half (width_in file) (height_in file))));
           })
-      go (Refused q) passed e = absurd (let z : ◌≡◌ {A = ℕ} 0 1 = cc in omega arith)
+      go (Err q) passed e = absurd (let z : ◌≡◌ {A = ℕ} 0 1 = cc in omega arith)
 
 -- what was written is the file
 module _ (tile : List ℕ) (width height : ℕ) (snorm : Bool) (before : List ℕ) (n : ℕ) (ok : Accepted tile width height n) where

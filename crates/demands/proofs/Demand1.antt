@@ -12,26 +12,14 @@ use Rattle.refusal.specs.declared.Refusal.{Refusal}
 use Rattle.refusal.specs.declared.Refusal.TheVariants.{WordMalformed, InChannel}
 use Rattle.refusal.specs.declared.Channel.TheVariants.{First, Second}
 use Rattle.refusal.specs.declared.Fault.TheVariants.{Nan, TileNan}
-use Rattle.refusal.specs.declared.Checked.{Checked}
-use Rattle.refusal.specs.declared.Checked.TheVariants.{Passed, Refused}
-use Rattle.bc4.specs.declared.Encoded.TheVariants.{Block, Refused as NotEncoded}
-use Rattle.bc4.specs.declared.Scored.TheVariants.{Error, Refused as NotScored}
-use Rattle.bc4.specs.declared.Resent.TheVariants.{Block as Answered, Refused as NotResent}
-use Rattle.bc4.specs.declared.Tiled.TheVariants.{Written, Refused as NotTiled}
-use Rattle.refusal.specs.Refusals.{Check, when, first_of, answered, count_check, room_check, tile_nan_check, size_checks, encode_checks, resend_checks, tile_checks, view_checks}
+use Rattle.core.specs.declared.result.Result.TheVariants.{Ok, Err}
+use Rattle.refusal.specs.Refusals.{Checked, refusal_in, Check, when, first_of, answered, count_check, room_check, tile_nan_check, size_checks, encode_checks, resend_checks, tile_checks, view_checks}
 use Rattle.refusal.proofs.Firsts.{refusal_of, first_clear, both_passed, same_of}
 use Rattle.refusal.proofs.Sizes.{size_passed}
 use Rattle.bc4.specs.Word.{word_of}
-use Rattle.bc5.specs.declared.Encoded.TheVariants.{Block as PairBlock, Refused as NotPairEncoded}
-use Rattle.bc5.specs.declared.Scored.TheVariants.{Errors, Refused as NotPairScored}
-use Rattle.bc5.specs.declared.Resent.TheVariants.{Block as PairAnswered, Refused as NotPairResent}
 use Rattle.bc5.specs.Checks.{nan_checks, tile_nan_checks, counted, encode_checks as pair_encode_checks, resend_checks as pair_resend_checks, tile_checks as pair_tile_checks}
-use Rattle.bc5.specs.Calls.{of_encoded as of_pair_encoded, of_scored as of_pair_scored, of_resent as of_pair_resent}
-use Rattle.dds.specs.declared.Written.TheVariants.{Bytes, Refused as NotWritten}
-use Rattle.dds.specs.declared.Found.TheVariants.{File, Refused as NotFound}
 use Rattle.dds.specs.Checks.{read_checks}
-use Rattle.dds.specs.Calls.{of_written, of_found, read_answer}
-use Rattle.bc4.specs.Calls.{of_encoded, of_scored, of_resent, of_tiled}
+use Rattle.dds.specs.Calls.{read_answer}
 use Rattle.demands.specs.Exactly.{Condition, When, Exactly, InNumberOrder}
 use Rattle.demands.specs.Conditions.{BadWord}
 use Rattle.demands.specs.Channels.{BothCounts, BothReal, PairEncodeRefuses, PairResendRefuses, PairTileRefuses}
@@ -108,46 +96,46 @@ word_alike flags limit quality last = then (when_same (word_iff flags limit qual
 pub encode_exactly : (s : List Float) → Exactly (first_of (encode_checks s)) (EncodeRefuses s)
 encode_exactly s = exactly (encode_alike s)
 
-module _ {A : Type 0} (of : A → Checked) (refused : Refusal → A) (value : A) (passed : of value ≡ Passed) (back : (q : Refusal) → of (refused q) ≡ Refused q) where
-  answer_in_order : {cs : List Check} {Cs : List Condition} → Alike cs Cs → T (ascends 0 cs) → InNumberOrder (of (answered refused value (first_of cs))) Cs
-  answer_in_order {cs} alike a = rw (refusal_of of refused value passed back (first_of cs)) (in_order alike a)
+module _ {A : Type 0} (value : A) where
+  answer_in_order : {cs : List Check} {Cs : List Condition} → Alike cs Cs → T (ascends 0 cs) → InNumberOrder (refusal_in (answered Err (Ok value) (first_of cs))) Cs
+  answer_in_order {cs} alike a = rw (refusal_of value (first_of cs)) (in_order alike a)
 
-  answer_exactly : (cs : List Check) {Cs : List Condition} → Exactly (first_of cs) Cs → Exactly (of (answered refused value (first_of cs))) Cs
-  answer_exactly cs e = rw (refusal_of of refused value passed back (first_of cs)) e
+  answer_exactly : (cs : List Check) {Cs : List Condition} → Exactly (first_of cs) Cs → Exactly (refusal_in (answered Err (Ok value) (first_of cs))) Cs
+  answer_exactly cs e = rw (refusal_of value (first_of cs)) e
 
-read_refusal_lem : (file : List ℕ) → of_found (read_answer file) ≡ first_of (read_checks file)
-read_refusal_lem file = refusal_of of_found NotFound (File _) refl (λ q. refl) (first_of (read_checks file))
+read_refusal_lem : (file : List ℕ) → refusal_in (read_answer file) ≡ first_of (read_checks file)
+read_refusal_lem file = refusal_of _ (first_of (read_checks file))
 
 pub demand_1 : Demand1
 demand_1 = record {
-  encode = λ s o. answer_in_order of_encoded NotEncoded (Block _) refl (λ q. refl) (encode_alike s) tt;
+  encode = λ s o. answer_in_order _ (encode_alike s) tt;
   decode = λ b. in_order (then (when_same (unequal_iff _ _)) end) tt;
   error = λ s b snorm.
-      answer_in_order of_scored NotScored (Error _) refl (λ q. refl) (then (when_same (unequal_iff _ _)) (then (when_same (unequal_iff _ _)) (then (nan_same s) end))) tt;
-  resend = λ s held o. answer_in_order of_resent NotResent (Answered _) refl (λ q. refl) (resend_alike s held o) tt;
-  tile = λ s width height out. answer_exactly of_tiled NotTiled (Written _) refl (λ q. refl) _ (tile_alone s width height out);
+      answer_in_order _ (then (when_same (unequal_iff _ _)) (then (when_same (unequal_iff _ _)) (then (nan_same s) end))) tt;
+  resend = λ s held o. answer_in_order _ (resend_alike s held o) tt;
+  tile = λ s width height out. answer_exactly _ _ (tile_alone s width height out);
   view = λ tile width height column row. exactly (view_alike tile width height column row);
   encode_word = λ s flags limit quality last.
-      answer_in_order of_encoded NotEncoded (Block _) refl (λ q. refl) (together (encode_alike s) (word_alike flags limit quality last)) tt;
+      answer_in_order _ (together (encode_alike s) (word_alike flags limit quality last)) tt;
   resend_word = λ s held flags limit quality last.
-      answer_in_order of_resent NotResent (Answered _) refl (λ q. refl) (together (resend_alike s held (word_of flags limit quality last).options) (word_alike flags limit quality last)) tt;
+      answer_in_order _ (together (resend_alike s held (word_of flags limit quality last).options) (word_alike flags limit quality last)) tt;
   tile_word = λ s width height out flags limit quality last.
-      answer_exactly of_tiled NotTiled (Written _) refl (λ q. refl) _ (tile_exactly s width height out (word_alike flags limit quality last));
-  pair_encode = λ first second o. answer_in_order of_pair_encoded NotPairEncoded (PairBlock _) refl (λ q. refl) (pair_encode_alike first second) tt;
+      answer_exactly _ _ (tile_exactly s width height out (word_alike flags limit quality last));
+  pair_encode = λ first second o. answer_in_order _ (pair_encode_alike first second) tt;
   pair_decode = λ b. in_order (then (when_same (unequal_iff _ _)) end) tt;
   pair_error_lem = λ first second b snorm.
-      answer_in_order of_pair_scored NotPairScored (Errors _) refl (λ q. refl) (both_counts first second 16 (then (when_same (unequal_iff _ _)) (both_real first second))) tt;
-  pair_resend = λ first second held o. answer_in_order of_pair_resent NotPairResent (PairAnswered _) refl (λ q. refl) (pair_resend_alike first second held o) tt;
-  pair_tile = λ first second width height out. answer_exactly of_tiled NotTiled (Written _) refl (λ q. refl) _ (pair_tile_alone first second width height out);
+      answer_in_order _ (both_counts first second 16 (then (when_same (unequal_iff _ _)) (both_real first second))) tt;
+  pair_resend = λ first second held o. answer_in_order _ (pair_resend_alike first second held o) tt;
+  pair_tile = λ first second width height out. answer_exactly _ _ (pair_tile_alone first second width height out);
   pair_view = λ tile width height column row. exactly (together (pair_bytes_alike tile width height) (then (when_same (place_iff width height column row)) end));
   pair_encode_word = λ first second flags limit quality last.
-      answer_in_order of_pair_encoded NotPairEncoded (PairBlock _) refl (λ q. refl) (together (pair_encode_alike first second) (word_alike flags limit quality last)) tt;
+      answer_in_order _ (together (pair_encode_alike first second) (word_alike flags limit quality last)) tt;
   pair_resend_word = λ first second held flags limit quality last.
-      answer_in_order of_pair_resent NotPairResent (PairAnswered _) refl (λ q. refl)
+      answer_in_order _
       (together (pair_resend_alike first second held (word_of flags limit quality last).options) (word_alike flags limit quality last)) tt;
   pair_tile_word = λ first second width height out flags limit quality last.
-      answer_exactly of_tiled NotTiled (Written _) refl (λ q. refl) _ (pair_tile_exactly first second width height out (word_alike flags limit quality last));
-  write_dds = λ tile width height out. answer_exactly of_written NotWritten (Bytes _) refl (λ q. refl) _ (exactly (write_alike tile width height out));
+      answer_exactly _ _ (pair_tile_exactly first second width height out (word_alike flags limit quality last));
+  write_dds = λ tile width height out. answer_exactly _ _ (exactly (write_alike tile width height out));
   read_dds = λ file. rw (read_refusal_lem file) (exactly (read_alike file));
   read_dds_refusal = λ file. sym (read_refusal_lem file);
   receive = receive_exactly;

@@ -18,22 +18,20 @@ use Rattle.tile.specs.Tile.{block_bytes, tile_bytes}
 use Rattle.place.proofs.Places.{rows_length, block_within}
 use Rattle.place.proofs.Joined.{in_first, all_length, block_stands}
 use Rattle.place.proofs.Samples.{block_of_length, block_of_real}
-use Rattle.refusal.specs.declared.Checked.TheVariants.{Passed}
-use Rattle.bc4.specs.declared.Encoded.TheVariants.{Block}
-use Rattle.bc4.specs.declared.Tiled.TheVariants.{Written, Refused as NotTiled}
-use Rattle.refusal.specs.Refusals.{first_of, first_nan, encode_checks, tile_checks}
-use Rattle.bc4.specs.Calls.{of_tiled, encode_answer}
+use Rattle.core.specs.declared.result.Result.TheVariants.{Ok, Err}
+use Rattle.refusal.specs.Refusals.{refusal_in, first_of, first_nan, encode_checks, tile_checks}
+use Rattle.bc4.specs.Calls.{encode_answer}
 use Rattle.refusal.proofs.Firsts.{refusal_of}
 use Rattle.refusal.proofs.Tiles.{Samples, tile_passed}
 use Rattle.demands.specs.Demand2.{Demand2}
 use Rattle.demands.proofs.Conditions.{none_before}
 use Rattle.demands.proofs.Demand1.{encode_exactly}
 
-pub block_answer : (s : List Float) (o : Options) → first_of (encode_checks s) ≡ Passed → encode_answer s o ≡ Block (compressed s o)
+pub block_answer : (s : List Float) (o : Options) → first_of (encode_checks s) ≡ Ok tt → encode_answer s o ≡ Ok (compressed s o)
 block_answer s o e = rw e
 
 -- what the block call asks of its samples
-pub accepted : (s : List Float) → length s ≡ 16 → ((i : ℕ) → i < 16 → is_nan (pixel_at s i) ≡ false) → first_of (encode_checks s) ≡ Passed
+pub accepted : (s : List Float) → length s ≡ 16 → ((i : ℕ) → i < 16 → is_nan (pixel_at s i) ≡ false) → first_of (encode_checks s) ≡ Ok tt
 accepted s long real =
     (encode_exactly s).passed.1 (λ q x. elim x [
       | inl y ↦ y.1 long
@@ -43,7 +41,7 @@ accepted s long real =
 
 -- a block of some samples of a tile without NaN
 pub part_accepted : (s : List Float) (width height column row : ℕ) → length s ≡ width * height → length s ≤ first_nan s → column < along width → row < along height
-    → first_of (encode_checks (block_of s width column row)) ≡ Passed
+    → first_of (encode_checks (block_of s width column row)) ≡ Ok tt
 part_accepted s width height column row count free h k =
     accepted (block_of s width column row) (block_of_length s width column row) (block_of_real s width height column row count h k (λ i l. none_before s i (omega arith)))
 
@@ -56,12 +54,12 @@ block_kept block size each width height good out column row h k =
     in_first (all_bytes block width height) (drop (encoded_length size width height) out) size (block_at size width column row) (rw long (block_within width height good size column row h k))
     ∙ block_stands block size width each height column row h k
 
-module _ (s : List Float) (width height : ℕ) (o : Options) (out : List ℕ) (passed : first_of (tile_checks s width height (length out)) ≡ Passed) (column row : ℕ) (h : column < along width)
+module _ (s : List Float) (width height : ℕ) (o : Options) (out : List ℕ) (passed : first_of (tile_checks s width height (length out)) ≡ Ok tt) (column row : ℕ) (h : column < along width)
     (k : row < along height) where
   tile : Samples s width height (length out)
   tile = tile_passed s width height (length out) passed
 
-  block_accepted : first_of (encode_checks (block_of s width column row)) ≡ Passed
+  block_accepted : first_of (encode_checks (block_of s width column row)) ≡ Ok tt
   block_accepted = part_accepted s width height column row tile.count tile.real h k
 
   block_there : take bc4_size (drop (block_at bc4_size width column row) (tile_bytes s width height o ++ drop (encoded_length bc4_size width height) out)) ≡ block_bytes s width o column row
@@ -72,6 +70,6 @@ demand_2 = record {
   encoded = λ s o long real. block_answer s o (accepted s long real);
   near = λ encoded snorm before i h. decoded_close snorm (from_bytes encoded) i h;
   tiled = λ s width height o out n e column row h k.
-      let passed = sym (refusal_of of_tiled NotTiled (Written _) refl (λ q. refl) _) ∙ ap of_tiled e in
+      let passed = sym (refusal_of _ _) ∙ ap refusal_in e in
       (block_answer (block_of s width column row) o (block_accepted s width height o out passed column row h k), block_there s width height o out passed column row h k);
 }

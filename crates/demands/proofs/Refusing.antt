@@ -9,7 +9,7 @@ use lib.Dec.{T, leb, lit≤}
 use Rattle.floats.proofs.Tests.{clash}
 use Rattle.floats.proofs.Table.{both, both_left, both_right}
 use Rattle.refusal.specs.declared.Refusal.{Refusal}
-use Rattle.refusal.specs.declared.Checked.TheVariants.{Passed, Refused}
+use Rattle.core.specs.declared.result.Result.TheVariants.{Ok, Err}
 use Rattle.refusal.specs.Refusals.{number_of, Check, first_of}
 use Rattle.refusal.proofs.Firsts.{apart}
 use Rattle.demands.specs.Exactly.{Condition, Iff, AnyOf, Exactly, InNumberOrder}
@@ -28,16 +28,16 @@ together end more = more
 together (then same rest) more = then same (together rest more)
 
 -- Those of a first list, and then others, of which more can be said where none of the first applies.
-pub exactly_then : {cs : List Check} {Cs : List Condition} (ds : List Check) {Ds : List Condition} → Alike cs Cs → (first_of cs ≡ Passed → Exactly (first_of ds) Ds) → Exactly (first_of (cs ++ ds)) (Cs ++ Ds)
+pub exactly_then : {cs : List Check} {Cs : List Condition} (ds : List Check) {Ds : List Condition} → Alike cs Cs → (first_of cs ≡ Ok tt → Exactly (first_of ds) Ds) → Exactly (first_of (cs ++ ds)) (Cs ++ Ds)
 unfolding first_of
 exactly_then ds end more = more refl
 exactly_then ds {Ds} (then {c} {C} {cs} {Cs} same rest) more = go c.applies refl (λ t. exactly_then ds rest (λ p. more (rw t p)))
   where
-    go : (t : Bool) → c.applies ≡ t → (c.applies ≡ false → Exactly (first_of (cs ++ ds)) (Cs ++ Ds)) → Exactly (cond t (Refused c.refusal) (first_of (cs ++ ds))) (C ∷ (Cs ++ Ds))
+    go : (t : Bool) → c.applies ≡ t → (c.applies ≡ false → Exactly (first_of (cs ++ ds)) (Cs ++ Ds)) → Exactly (cond t (Err c.refusal) (first_of (cs ++ ds))) (C ∷ (Cs ++ Ds))
     go true t rest =
         let here : C c.refusal = (same c.refusal).0 (refl, t) in
         record {
-          refused = λ q. (λ e. let s : c.refusal ≡ q = cc in inl (rw (← s) here), λ f. elim f [ inl x ↦ ap Refused (sym ((same q).1 x).0) | inr y ↦ absurd (y.0 c.refusal here) ]);
+          refused = λ q. (λ e. let s : c.refusal ≡ q = cc in inl (rw (← s) here), λ f. elim f [ inl x ↦ ap Err (sym ((same q).1 x).0) | inr y ↦ absurd (y.0 c.refusal here) ]);
           passed = (λ e. absurd (apart e), λ none. absurd (none c.refusal (inl here)));
         }
     go false t rest =
@@ -48,7 +48,7 @@ exactly_then ds {Ds} (then {c} {C} {cs} {Cs} same rest) more = go c.applies refl
           passed = (λ e q x. elim x [ inl y ↦ never q y | inr z ↦ later.passed.0 e q z ], λ none. later.passed.1 (λ q z. none q (inr z)));
         }
 
-no_more : Exactly Passed []
+no_more : Exactly (Ok tt) []
 no_more = record { refused = λ q. (λ e. apart (sym e), λ x. absurd x); passed = (λ e q x. x, λ f. refl) }
 
 pub exactly : {cs : List Check} {Cs : List Condition} → Alike cs Cs → Exactly (first_of cs) Cs
@@ -75,12 +75,12 @@ above (then {c} {C} {cs} same rest) n p a (inr y) =
     let here = first_above n c cs a in
     omega arith
 
-lowest : {cs : List Check} {Cs : List Condition} → Alike cs Cs → (n : ℕ) (q p : Refusal) → T (ascends n cs) → first_of cs ≡ Refused q → AnyOf Cs p → number_of q ≤ number_of p
+lowest : {cs : List Check} {Cs : List Condition} → Alike cs Cs → (n : ℕ) (q p : Refusal) → T (ascends n cs) → first_of cs ≡ Err q → AnyOf Cs p → number_of q ≤ number_of p
 unfolding first_of
 lowest end n q p a e h = absurd h
 lowest (then {c} {C} {cs} {Cs} same rest) n q p a e h = go c.applies refl e h (lowest rest (number_of c.refusal) q p (rest_ascends n c cs a))
   where
-    go : (t : Bool) → c.applies ≡ t → cond t (Refused c.refusal) (first_of cs) ≡ Refused q → AnyOf (C ∷ Cs) p → (first_of cs ≡ Refused q → AnyOf Cs p → number_of q ≤ number_of p) → number_of q ≤ number_of p
+    go : (t : Bool) → c.applies ≡ t → cond t (Err c.refusal) (first_of cs) ≡ Err q → AnyOf (C ∷ Cs) p → (first_of cs ≡ Err q → AnyOf Cs p → number_of q ≤ number_of p) → number_of q ≤ number_of p
     go true t e (inl x) later = let s : number_of q ≡ number_of p = cc ((same p).1 x).0 in omega arith
     go true t e (inr y) later = let s : number_of q ≡ number_of c.refusal = cc in let u = above rest (number_of c.refusal) p (rest_ascends n c cs a) y in omega arith
     go false t e (inl x) later = absurd (clash ((same p).1 x).1 t)

@@ -13,11 +13,10 @@ use Rattle.index_list.proofs.ReadBack.{bytes_all, bytes_from}
 use Rattle.options.specs.declared.Options.{Options}
 use Rattle.decode.specs.BlockError.{block_error}
 use Rattle.decode.proofs.Laws.{error_of_bytes}
-use Rattle.refusal.specs.declared.Checked.TheVariants.{Passed}
+use Rattle.core.specs.declared.result.Result.TheVariants.{Ok}
 use Rattle.refusal.specs.Refusals.{first_of, resend_checks}
 use Rattle.refusal.proofs.Firsts.{answered_cases, first_clear, same_of}
 use Rattle.bc4.specs.declared.Kept.{Kept}
-use Rattle.bc4.specs.declared.Resent.TheVariants.{Block as Answered}
 use Rattle.bc4.specs.Calls.{better_of, resend_answer}
 use Rattle.bc4.proofs.Resends.{stays_or_replaced}
 use Rattle.demands.specs.Exactly.{Iff}
@@ -25,7 +24,7 @@ use Rattle.demands.specs.Demand3.{held_after, series, AllIn, StaysOrBetter}
 
 -- where a resend is not refused, what is held are eight bytes: read as a number and laid out again they are the same
 module _ (s : List Float) (held : List ℕ) (all : AllBytes held) (o : Options) where
-  held_back : first_of (resend_checks s held o) ≡ Passed → bytes_of (from_bytes held) ≡ held
+  held_back : first_of (resend_checks s held o) ≡ Ok tt → bytes_of (from_bytes held) ≡ held
   held_back passed = bytes_from held (same_of _ _ (first_clear (resend_checks s held o) passed).1.0) all
 
   one_resend : StaysOrBetter o.snorm s held (held_after held (resend_answer s held o))
@@ -40,9 +39,9 @@ module _ (s : List Float) (held : List ℕ) (all : AllBytes held) (o : Options) 
   next_bytes : AllBytes (held_after held (resend_answer s held o))
   next_bytes = answered_cases (λ r. AllBytes (held_after held r)) (first_of (resend_checks s held o)) (λ q e. all) (λ e. bytes_all (better_of s (from_bytes held) o).block)
 
-  pub flag_right : (h : Kept) → resend_answer s held o ≡ Answered h → Iff (h.fresh ≡ true) (bytes_of h.block ≡ held → ⊥)
+  pub flag_right : (h : Kept) → resend_answer s held o ≡ Ok h → Iff (h.fresh ≡ true) (bytes_of h.block ≡ held → ⊥)
   flag_right h =
-      answered_cases (λ r. r ≡ Answered h → Iff (h.fresh ≡ true) (bytes_of h.block ≡ held → ⊥)) (first_of (resend_checks s held o))
+      answered_cases (λ r. r ≡ Ok h → Iff (h.fresh ≡ true) (bytes_of h.block ≡ held → ⊥)) (first_of (resend_checks s held o))
       (λ q e r. let z : ◌≡◌ {A = ℕ} 0 1 = cc in absurd (omega arith))
       (λ e r.
       let same : better_of s (from_bytes held) o ≡ h = cc in

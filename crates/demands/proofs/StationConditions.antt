@@ -8,12 +8,12 @@ use lib.Dec.{eqb, ltb}
 use lib.ListN.{length, length-take, length-drop}
 use borrow.Author.Tests.{eq-eqb, eqb-true, ne_eqb, eqb-false, not-true}
 use Rattle.place.specs.Place.{bc4_size, encoded_length}
-use Rattle.refusal.specs.declared.Checked.TheVariants.{Passed}
-use Rattle.refusal.specs.Refusals.{first_of}
+use Rattle.core.specs.declared.result.Result.TheVariants.{Ok, Err}
+use Rattle.refusal.specs.Refusals.{refusal_in, first_of}
 use Rattle.refusal.proofs.Firsts.{refusal_of}
-use Rattle.station.specs.declared.Received.TheVariants.{Taken, Repeated, Replaced, Old, Refused as NotReceived}
+use Rattle.station.specs.declared.Received.TheVariants.{Taken, Repeated, Replaced, Old}
 use Rattle.station.specs.Editions.{Message, Held, entry_size, entry_at, bytes_at, is_empty, edition_in, ahead, alike, halfway}
-use Rattle.station.specs.Receiving.{held_checks, receive_checks, becomes, receive_answer, of_received}
+use Rattle.station.specs.Receiving.{held_checks, receive_checks, becomes, receive_answer}
 use Rattle.station.proofs.Room.{room}
 use Rattle.station.proofs.Cases.{alike_same, alike_equal}
 use Rattle.demands.specs.Exactly.{Iff, Exactly}
@@ -52,19 +52,9 @@ reused_iff n edition bytes block p q =
     let both = and_iff _ _ (full_iff n) (and_iff _ _ (same_iff n edition) (other_iff bytes block p q)) in
     (λ e. let x = both.0 e in (x.0, x.1.0, x.1.1), λ x. both.1 (x.0, (x.1, x.2)))
 
--- what becomes of a message is no refusal
-becomes_passed : (entry edition : ℕ) → of_received (becomes entry edition) ≡ Passed
-becomes_passed entry edition = go (is_empty entry) (eqb (ahead edition (edition_in entry)) 0) (ltb (ahead edition (edition_in entry)) halfway)
-  where
-    go : (t u v : Bool) → of_received (cond t Taken (cond u Repeated (cond v Replaced Old))) ≡ Passed
-    go true u v = refl
-    go false true v = refl
-    go false false true = refl
-    go false false false = refl
-
-pub receive_exactly : (held : Held) (width height : ℕ) (m : Message) → Exactly (of_received (receive_answer held width height m)) (ReceiveRefuses held width height m)
+pub receive_exactly : (held : Held) (width height : ℕ) (m : Message) → Exactly (refusal_in (receive_answer held width height m)) (ReceiveRefuses held width height m)
 receive_exactly held width height m =
-    rw (refusal_of of_received NotReceived (becomes (entry_at held width m.column m.row) m.edition) (becomes_passed (entry_at held width m.column m.row) m.edition) (λ q. refl) (first_of (receive_checks held width height m)))
+    rw (refusal_of _ (first_of (receive_checks held width height m)))
     (exactly_then (held_checks held width m)
     (together (bytes_alike held.tile width height)
     (then (when_same (entries_iff (length held.editions) width height))

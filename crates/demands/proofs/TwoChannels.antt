@@ -15,22 +15,16 @@ use Rattle.encode.specs.Encoder.{compressed}
 use Rattle.decode.specs.BlockError.{block_error}
 use Rattle.place.specs.Place.{bc5_size, encoded_length, block_of}
 use Rattle.tile.specs.Tile.{pair_bytes}
-use Rattle.refusal.specs.declared.Checked.TheVariants.{Passed}
-use Rattle.refusal.specs.Refusals.{first_of}
+use Rattle.core.specs.declared.result.Result.TheVariants.{Ok, Err}
+use Rattle.refusal.specs.Refusals.{Answer, refusal_in, first_of}
 use Rattle.refusal.proofs.Firsts.{refusal_of}
 use Rattle.bc4.specs.declared.Kept.{Kept as OneKept}
-use Rattle.bc4.specs.declared.Resent.TheVariants.{Block as OneAnswered}
-use Rattle.bc4.specs.declared.Tiled.TheVariants.{Written, Refused as NotTiled}
-use Rattle.bc4.specs.Calls.{of_tiled, better_of, resend_answer as one_resend_answer}
+use Rattle.bc4.specs.Calls.{better_of, resend_answer as one_resend_answer}
 use Rattle.bc5.specs.declared.Halves.{Halves}
 use Rattle.bc5.specs.declared.Errors.{Errors as BothErrors}
 use Rattle.bc5.specs.declared.Kept.{Kept}
-use Rattle.bc5.specs.declared.Encoded.TheVariants.{Block, Refused as NotEncoded}
-use Rattle.bc5.specs.declared.Scored.TheVariants.{Errors, Refused as NotScored}
-use Rattle.bc5.specs.declared.Resent.{Resent}
-use Rattle.bc5.specs.declared.Resent.TheVariants.{Block as Answered, Refused as NotResent}
 use Rattle.bc5.specs.Checks.{encode_checks, error_checks, resend_checks, tile_checks}
-use Rattle.bc5.specs.Calls.{first_half, second_half, of_encoded, of_scored, of_resent, coded_of, scores_of, kept_of, encode_answer, error_answer, resend_answer, tile_answer}
+use Rattle.bc5.specs.Calls.{first_half, second_half, coded_of, scores_of, kept_of, encode_answer, error_answer, resend_answer, tile_answer}
 use Rattle.bc5.proofs.Counts as counts
 use Rattle.demands.specs.Exactly.{Iff}
 use Rattle.demands.specs.Demand3.{series, AllIn, StaysOrBetter}
@@ -43,26 +37,26 @@ use Rattle.demands.proofs.Series.{flag_right, series_after, later}
 use Rattle.demands.proofs.Demand3.{demand_3}
 
 -- ---- encode
-encode_passed : (first second : List Float) (o : Options) (b : Halves) → encode_answer first second o ≡ Block b → first_of (encode_checks first second) ≡ Passed
-encode_passed first second o b e = sym (refusal_of of_encoded NotEncoded (Block _) refl (λ q. refl) _) ∙ ap of_encoded e
+encode_passed : (first second : List Float) (o : Options) (b : Halves) → encode_answer first second o ≡ Ok b → first_of (encode_checks first second) ≡ Ok tt
+encode_passed first second o b e = sym (refusal_of _ _) ∙ ap refusal_in e
 
-encoded_as : (first second : List Float) (o : Options) (b : Halves) → encode_answer first second o ≡ Block b → coded_of first second o ≡ b
-encoded_as first second o b e = let passed = encode_passed first second o b e in let same : Block (coded_of first second o) ≡ Block b = rw passed at e in cc
+encoded_as : (first second : List Float) (o : Options) (b : Halves) → encode_answer first second o ≡ Ok b → coded_of first second o ≡ b
+encoded_as first second o b e = let passed = encode_passed first second o b e in let same : Ok (coded_of first second o) ≡ Ok b = rw passed at e in cc
 
-score_passed : (first second : List Float) (encoded : List ℕ) (snorm : Bool) (e : BothErrors) → error_answer first second encoded snorm ≡ Errors e → first_of (error_checks first second encoded) ≡ Passed
-score_passed first second encoded snorm e r = sym (refusal_of of_scored NotScored (Errors _) refl (λ q. refl) _) ∙ ap of_scored r
+score_passed : (first second : List Float) (encoded : List ℕ) (snorm : Bool) (e : BothErrors) → error_answer first second encoded snorm ≡ Ok e → first_of (error_checks first second encoded) ≡ Ok tt
+score_passed first second encoded snorm e r = sym (refusal_of _ _) ∙ ap refusal_in r
 
-scored_as : (first second : List Float) (encoded : List ℕ) (snorm : Bool) (e : BothErrors) → error_answer first second encoded snorm ≡ Errors e → scores_of first second encoded snorm ≡ e
+scored_as : (first second : List Float) (encoded : List ℕ) (snorm : Bool) (e : BothErrors) → error_answer first second encoded snorm ≡ Ok e → scores_of first second encoded snorm ≡ e
 scored_as first second encoded snorm e r =
-    let passed = score_passed first second encoded snorm e r in let same : Errors (scores_of first second encoded snorm) ≡ Errors e = rw passed at r in cc
+    let passed = score_passed first second encoded snorm e r in let same : Ok (scores_of first second encoded snorm) ≡ Ok e = rw passed at r in cc
 
 -- ---- tile
-tile_passed : (first second : List Float) (width height room n : ℕ) → tile_answer first second width height room ≡ Written n → first_of (tile_checks first second width height room) ≡ Passed
-tile_passed first second width height room n e = sym (refusal_of of_tiled NotTiled (Written _) refl (λ q. refl) _) ∙ ap of_tiled e
+tile_passed : (first second : List Float) (width height room n : ℕ) → tile_answer first second width height room ≡ Ok n → first_of (tile_checks first second width height room) ≡ Ok tt
+tile_passed first second width height room n e = sym (refusal_of _ _) ∙ ap refusal_in e
 
-written_as : (first second : List Float) (width height room n : ℕ) → tile_answer first second width height room ≡ Written n → n ≡ encoded_length bc5_size width height
+written_as : (first second : List Float) (width height room n : ℕ) → tile_answer first second width height room ≡ Ok n → n ≡ encoded_length bc5_size width height
 written_as first second width height room n e =
-    let passed = tile_passed first second width height room n e in let same : Written (encoded_length bc5_size width height) ≡ Written n = rw passed at e in cc
+    let passed = tile_passed first second width height room n e in let same : Ok (encoded_length bc5_size width height) ≡ Ok n = rw passed at e in cc
 
 half_demand : (s : List Float) (o : Options) → HalfDemand3 s o (compressed s o)
 half_demand s o = record {
@@ -78,14 +72,14 @@ half_demand s o = record {
 
 -- ---- resends
 module _ (first second : List Float) where
-  resend_passed : (held : List ℕ) (o : Options) (h : Kept) → resend_answer first second held o ≡ Answered h → first_of (resend_checks first second held o) ≡ Passed
-  resend_passed held o h e = sym (refusal_of of_resent NotResent (Answered _) refl (λ q. refl) _) ∙ ap of_resent e
+  resend_passed : (held : List ℕ) (o : Options) (h : Kept) → resend_answer first second held o ≡ Ok h → first_of (resend_checks first second held o) ≡ Ok tt
+  resend_passed held o h e = sym (refusal_of _ _) ∙ ap refusal_in e
 
-  resent_as : (held : List ℕ) (o : Options) (h : Kept) → resend_answer first second held o ≡ Answered h → kept_of first second held o ≡ h
-  resent_as held o h e = let passed = resend_passed held o h e in let same : Answered (kept_of first second held o) ≡ Answered h = rw passed at e in cc
+  resent_as : (held : List ℕ) (o : Options) (h : Kept) → resend_answer first second held o ≡ Ok h → kept_of first second held o ≡ h
+  resent_as held o h e = let passed = resend_passed held o h e in let same : Ok (kept_of first second held o) ≡ Ok h = rw passed at e in cc
 
-  resent_each : (held : List ℕ) (o : Options) (h : Kept) → resend_answer first second held o ≡ Answered h
-      → (one_resend_answer first (first_half held) o ≡ OneAnswered h.first) × (one_resend_answer second (second_half held) o ≡ OneAnswered h.second)
+  resent_each : (held : List ℕ) (o : Options) (h : Kept) → resend_answer first second held o ≡ Ok h
+      → (one_resend_answer first (first_half held) o ≡ Ok h.first) × (one_resend_answer second (second_half held) o ≡ Ok h.second)
   resent_each held o h e =
       let each = resend_each first second held o (resend_passed held o h e) in
       rw (← resent_as held o h e) (rw each.0, rw each.1)
@@ -102,11 +96,11 @@ module _ (first second : List Float) where
   parted snorm held [] a = record { taken = []; all_in = tt; of_first = refl; of_second = refl }
   parted snorm held (o ∷ ps) a = go (resend_answer first second held o) refl (λ next. parted snorm next ps a.1)
     where
-      go : (r : Resent) → resend_answer first second held o ≡ r → ((next : List ℕ) → Parted snorm next ps) → Parted snorm held (o ∷ ps)
-      go (NotResent q) e later =
+      go : (r : Answer Kept) → resend_answer first second held o ≡ r → ((next : List ℕ) → Parted snorm next ps) → Parted snorm held (o ∷ ps)
+      go (Err q) e later =
           let rest = later held in
           record { taken = rest.taken; all_in = rest.all_in; of_first = rw e rest.of_first; of_second = rw e rest.of_second }
-      go (Answered h) e later =
+      go (Ok h) e later =
           let each = resent_each held o h e in
           let rest = later (bytes_of h.first.block ++ bytes_of h.second.block) in
           record {

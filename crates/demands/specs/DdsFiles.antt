@@ -1,7 +1,6 @@
 -- Document 02, 1/12: what is promised of DDS files besides their refusals, which are in `Demand1`: what is written, what it reads back as, and what a read looks at.
 use Rattle.std.specs.Prelude.{◌≡◌, Bool, true, cond, ◌⊎◌, List, [], ◌∷◌, ℕ, ◌+◌, ◌*◌, ◌/◌, ◌<◌, ◌≤◌, length, take, drop, get_or}
-use Rattle.dds.specs.declared.Written.TheVariants.{Bytes}
-use Rattle.dds.specs.declared.Found.TheVariants.{File}
+use Rattle.core.specs.declared.result.Result.TheVariants.{Ok}
 use Rattle.dds.specs.declared.Picture.{Picture}
 use Rattle.dds.specs.Layout.{dds_magic, bc4u, bc4s, dx10}
 use Rattle.dds.specs.Calls.{write_answer, file_after, read_answer, body_of}
@@ -62,15 +61,15 @@ pub record Says (file : List ℕ) (p : Picture) : Type 0 where
 
 pub record DdsFiles : Type 0 where
   -- The first n bytes of the output are the file, as many as the answer says; later bytes stay.
-  pub written : (tile : List ℕ) (width height : ℕ) (snorm : Bool) (before : List ℕ) (n : ℕ) → write_answer (length tile) width height (length before) ≡ Bytes n
-      → let after = file_after (Bytes n) tile width height snorm before in
+  pub written : (tile : List ℕ) (width height : ℕ) (snorm : Bool) (before : List ℕ) (n : ℕ) → write_answer (length tile) width height (length before) ≡ Ok n
+      → let after = file_after (Ok n) tile width height snorm before in
       Header (take n after) tile width height snorm × (drop n after ≡ drop n before)
   -- Reading them gives size, format and tile back.
-  pub back : (tile : List ℕ) (width height : ℕ) (snorm : Bool) (before : List ℕ) (n : ℕ) → write_answer (length tile) width height (length before) ≡ Bytes n
-      → let file = take n (file_after (Bytes n) tile width height snorm before) in
-      (read_answer file ≡ File (record { width = width; height = height; snorm = snorm; start = 128 })) × (body_of file ≡ tile)
+  pub back : (tile : List ℕ) (width height : ℕ) (snorm : Bool) (before : List ℕ) (n : ℕ) → write_answer (length tile) width height (length before) ≡ Ok n
+      → let file = take n (file_after (Ok n) tile width height snorm before) in
+      (read_answer file ≡ Ok (record { width = width; height = height; snorm = snorm; start = 128 })) × (body_of file ≡ tile)
   -- What any other file is read as.
-  pub says : (file : List ℕ) (p : Picture) → read_answer file ≡ File p → Says file p
+  pub says : (file : List ℕ) (p : Picture) → read_answer file ≡ Ok p → Says file p
   -- Nothing else of a file matters: two that agree get the same answer.
   pub alone : (f g : List ℕ) → Agree f g → read_answer f ≡ read_answer g
   -- the numbers that the conditions of a read name, as the characters are spelled: `DDS `, `BC4U`, `BC4S`, `DX10`

@@ -6,21 +6,18 @@ use Rattle.options.specs.declared.Options.{Options}
 use Rattle.refusal.specs.declared.Refusal.{Refusal}
 use Rattle.refusal.specs.declared.Refusal.TheVariants.{SampleCount, EncodedLength, OutputLength, DitheredResend, NoSuchBlock, WordMalformed, DdsBody, EditionReused, EditionOpposite}
 use Rattle.refusal.specs.declared.Field.TheVariants.{Header, Extension, Magic, HeaderSize, FourCharacters, ExtensionFormat, MipCount, Depth, CubeFaces, ArraySize}
-use Rattle.refusal.specs.declared.Checked.TheVariants.{Refused}
-use Rattle.bc4.specs.declared.Tiled.TheVariants.{Refused as NotTiled}
-use Rattle.dds.specs.declared.Written.TheVariants.{Refused as NotWritten}
-use Rattle.refusal.specs.Refusals.{first_of, decode_checks, view_checks}
+use Rattle.core.specs.declared.result.Result.TheVariants.{Err}
+use Rattle.refusal.specs.Refusals.{refusal_in, first_of, decode_checks, view_checks}
 use Rattle.bc4.specs.Word.{word_of, encode_by_word, resend_by_word, tile_by_word}
-use Rattle.bc4.specs.Calls.{of_encoded, of_scored, of_resent, of_tiled, encode_answer, samples_after, error_answer, resend_answer, tile_answer, out_after, view_of}
+use Rattle.bc4.specs.Calls.{encode_answer, samples_after, error_answer, resend_answer, tile_answer, out_after, view_of}
 use Rattle.bc5.specs.Checks.{decode_checks as pair_decode_checks, view_checks as pair_view_checks}
 use Rattle.bc5.specs.Word.{encode_by_word as pair_encode_by_word, resend_by_word as pair_resend_by_word, tile_by_word as pair_tile_by_word}
-use Rattle.bc5.specs.Calls.{of_encoded as of_pair_encoded, of_scored as of_pair_scored, of_resent as of_pair_resent, encode_answer as pair_encode_answer, error_answer as pair_error_answer, resend_answer as pair_resend_answer, tile_answer as pair_tile_answer, out_after as pair_out_after, view_of as pair_view_of}
+use Rattle.bc5.specs.Calls.{encode_answer as pair_encode_answer, error_answer as pair_error_answer, resend_answer as pair_resend_answer, tile_answer as pair_tile_answer, out_after as pair_out_after, view_of as pair_view_of}
 use Rattle.dds.specs.Layout.{dds_magic, bc4u, bc4s, dx10}
 use Rattle.dds.specs.Checks.{read_checks}
-use Rattle.dds.specs.Calls.{of_written, of_found, write_answer, file_after, read_answer, body_of}
-use Rattle.station.specs.declared.Received.TheVariants.{Refused as NotReceived}
+use Rattle.dds.specs.Calls.{write_answer, file_after, read_answer, body_of}
 use Rattle.station.specs.Editions.{Message, Held, entry_at, bytes_at}
-use Rattle.station.specs.Receiving.{of_received, receive_answer, tile_after, editions_after}
+use Rattle.station.specs.Receiving.{receive_answer, tile_after, editions_after}
 use Rattle.demands.specs.Exactly.{Condition, When, WhenUnequal, Exactly, InNumberOrder}
 use Rattle.demands.specs.Conditions.{Missing, BadWord, WhenNan, SizeRefuses, WhenTileNan, field, four, WhenWrong, NoneOf, CubeFace, BadBody, Reused, Opposite}
 use Rattle.demands.specs.Channels.{PairEncodeRefuses, PairDecodeRefuses, PairErrorRefuses, PairResendRefuses, PairTileRefuses, PairViewRefuses}
@@ -82,64 +79,64 @@ ReceiveRefuses held width height m =
     ∷ When EditionOpposite (Opposite (entry_at held width m.column m.row) m.edition) ∷ []
 
 pub record Demand1 : Type 0 where
-  pub encode : (samples : List Float) (o : Options) → InNumberOrder (of_encoded (encode_answer samples o)) (EncodeRefuses samples)
+  pub encode : (samples : List Float) (o : Options) → InNumberOrder (refusal_in (encode_answer samples o)) (EncodeRefuses samples)
   pub decode : (encoded : List ℕ) → InNumberOrder (first_of (decode_checks encoded)) (DecodeRefuses encoded)
-  pub error : (samples : List Float) (encoded : List ℕ) (snorm : Bool) → InNumberOrder (of_scored (error_answer samples encoded snorm)) (ErrorRefuses samples encoded)
-  pub resend : (samples : List Float) (held : List ℕ) (o : Options) → InNumberOrder (of_resent (resend_answer samples held o)) (ResendRefuses samples held o)
+  pub error : (samples : List Float) (encoded : List ℕ) (snorm : Bool) → InNumberOrder (refusal_in (error_answer samples encoded snorm)) (ErrorRefuses samples encoded)
+  pub resend : (samples : List Float) (held : List ℕ) (o : Options) → InNumberOrder (refusal_in (resend_answer samples held o)) (ResendRefuses samples held o)
   -- where there is a size, 9 and 10 come straight after 1, and so before 2
   pub tile : (samples : List Float) (width height : ℕ) (out : List ℕ)
-      → Exactly (of_tiled (tile_answer samples width height (length out))) (TileRefuses samples width height out)
+      → Exactly (refusal_in (tile_answer samples width height (length out))) (TileRefuses samples width height out)
   pub view : (tile : List ℕ) (width height column row : ℕ)
       → Exactly (first_of (view_checks (length tile) width height column row)) (ViewRefuses tile width height column row)
   -- the calls that take a word, for every four bytes; the program has the first of them
   pub encode_word : (samples : List Float) (flags limit quality last : ℕ)
-      → InNumberOrder (of_encoded (encode_by_word samples (word_of flags limit quality last))) (ThenBadWord (EncodeRefuses samples) quality last)
+      → InNumberOrder (refusal_in (encode_by_word samples (word_of flags limit quality last))) (ThenBadWord (EncodeRefuses samples) quality last)
   pub resend_word : (samples : List Float) (held : List ℕ) (flags limit quality last : ℕ)
       → let w = word_of flags limit quality last in
-      InNumberOrder (of_resent (resend_by_word samples held w)) (ThenBadWord (ResendRefuses samples held w.options) quality last)
+      InNumberOrder (refusal_in (resend_by_word samples held w)) (ThenBadWord (ResendRefuses samples held w.options) quality last)
   pub tile_word : (samples : List Float) (width height : ℕ) (out : List ℕ) (flags limit quality last : ℕ)
-      → Exactly (of_tiled (tile_by_word samples width height (word_of flags limit quality last) (length out)))
+      → Exactly (refusal_in (tile_by_word samples width height (word_of flags limit quality last) (length out)))
       (ThenBadWord (TileRefuses samples width height out) quality last)
   -- two channels
-  pub pair_encode : (first second : List Float) (o : Options) → InNumberOrder (of_pair_encoded (pair_encode_answer first second o)) (PairEncodeRefuses first second)
+  pub pair_encode : (first second : List Float) (o : Options) → InNumberOrder (refusal_in (pair_encode_answer first second o)) (PairEncodeRefuses first second)
   pub pair_decode : (encoded : List ℕ) → InNumberOrder (first_of (pair_decode_checks encoded)) (PairDecodeRefuses encoded)
   pub pair_error_lem : (first second : List Float) (encoded : List ℕ) (snorm : Bool)
-      → InNumberOrder (of_pair_scored (pair_error_answer first second encoded snorm)) (PairErrorRefuses first second encoded)
+      → InNumberOrder (refusal_in (pair_error_answer first second encoded snorm)) (PairErrorRefuses first second encoded)
   pub pair_resend : (first second : List Float) (held : List ℕ) (o : Options)
-      → InNumberOrder (of_pair_resent (pair_resend_answer first second held o)) (PairResendRefuses first second held o)
+      → InNumberOrder (refusal_in (pair_resend_answer first second held o)) (PairResendRefuses first second held o)
   pub pair_tile : (first second : List Float) (width height : ℕ) (out : List ℕ)
-      → Exactly (of_tiled (pair_tile_answer first second width height (length out))) (PairTileRefuses first second width height out)
+      → Exactly (refusal_in (pair_tile_answer first second width height (length out))) (PairTileRefuses first second width height out)
   pub pair_view : (tile : List ℕ) (width height column row : ℕ)
       → Exactly (first_of (pair_view_checks (length tile) width height column row)) (PairViewRefuses tile width height column row)
   pub pair_encode_word : (first second : List Float) (flags limit quality last : ℕ)
-      → InNumberOrder (of_pair_encoded (pair_encode_by_word first second (word_of flags limit quality last))) (ThenBadWord (PairEncodeRefuses first second) quality last)
+      → InNumberOrder (refusal_in (pair_encode_by_word first second (word_of flags limit quality last))) (ThenBadWord (PairEncodeRefuses first second) quality last)
   pub pair_resend_word : (first second : List Float) (held : List ℕ) (flags limit quality last : ℕ)
       → let w = word_of flags limit quality last in
-      InNumberOrder (of_pair_resent (pair_resend_by_word first second held w)) (ThenBadWord (PairResendRefuses first second held w.options) quality last)
+      InNumberOrder (refusal_in (pair_resend_by_word first second held w)) (ThenBadWord (PairResendRefuses first second held w.options) quality last)
   pub pair_tile_word : (first second : List Float) (width height : ℕ) (out : List ℕ) (flags limit quality last : ℕ)
-      → Exactly (of_tiled (pair_tile_by_word first second width height (word_of flags limit quality last) (length out)))
+      → Exactly (refusal_in (pair_tile_by_word first second width height (word_of flags limit quality last) (length out)))
       (ThenBadWord (PairTileRefuses first second width height out) quality last)
   -- DDS files
   pub write_dds : (tile : List ℕ) (width height : ℕ) (out : List ℕ)
-      → Exactly (of_written (write_answer (length tile) width height (length out))) (WriteRefuses tile width height out)
-  pub read_dds : (file : List ℕ) → Exactly (of_found (read_answer file)) (ReadRefuses file)
+      → Exactly (refusal_in (write_answer (length tile) width height (length out))) (WriteRefuses tile width height out)
+  pub read_dds : (file : List ℕ) → Exactly (refusal_in (read_answer file)) (ReadRefuses file)
   -- the companion of a read tells the same refusal
-  pub read_dds_refusal : (file : List ℕ) → first_of (read_checks file) ≡ of_found (read_answer file)
+  pub read_dds_refusal : (file : List ℕ) → first_of (read_checks file) ≡ refusal_in (read_answer file)
   -- a station; a clear refuses nothing
-  pub receive : (held : Held) (width height : ℕ) (m : Message) → Exactly (of_received (receive_answer held width height m)) (ReceiveRefuses held width height m)
+  pub receive : (held : Held) (width height : ℕ) (m : Message) → Exactly (refusal_in (receive_answer held width height m)) (ReceiveRefuses held width height m)
   -- a refused call leaves lent memory as it was, a tile call by word too (`out_after` of the word's options), and a refused view is empty;
   -- `decode_leaves` is for both channels' arrays too
-  pub decode_leaves : (q : Refusal) (encoded : List ℕ) (snorm : Bool) (before : List Float) → samples_after (Refused q) encoded snorm before ≡ before
+  pub decode_leaves : (q : Refusal) (encoded : List ℕ) (snorm : Bool) (before : List Float) → samples_after (Err q) encoded snorm before ≡ before
   pub tile_leaves : (q : Refusal) (samples : List Float) (width height : ℕ) (o : Options) (before : List ℕ)
-      → out_after (NotTiled q) samples width height o before ≡ before
+      → out_after (Err q) samples width height o before ≡ before
   pub view_empty : (q : Refusal) (tile : List ℕ) (width height column row : ℕ)
-      → first_of (view_checks (length tile) width height column row) ≡ Refused q → view_of tile width height column row ≡ []
+      → first_of (view_checks (length tile) width height column row) ≡ Err q → view_of tile width height column row ≡ []
   pub pair_tile_leaves : (q : Refusal) (first second : List Float) (width height : ℕ) (o : Options) (before : List ℕ)
-      → pair_out_after (NotTiled q) first second width height o before ≡ before
+      → pair_out_after (Err q) first second width height o before ≡ before
   pub pair_view_empty : (q : Refusal) (tile : List ℕ) (width height column row : ℕ)
-      → first_of (pair_view_checks (length tile) width height column row) ≡ Refused q → pair_view_of tile width height column row ≡ []
+      → first_of (pair_view_checks (length tile) width height column row) ≡ Err q → pair_view_of tile width height column row ≡ []
   pub write_dds_leaves : (q : Refusal) (tile : List ℕ) (width height : ℕ) (snorm : Bool) (before : List ℕ)
-      → file_after (NotWritten q) tile width height snorm before ≡ before
-  pub read_dds_empty : (q : Refusal) (file : List ℕ) → first_of (read_checks file) ≡ Refused q → body_of file ≡ []
+      → file_after (Err q) tile width height snorm before ≡ before
+  pub read_dds_empty : (q : Refusal) (file : List ℕ) → first_of (read_checks file) ≡ Err q → body_of file ≡ []
   pub receive_leaves : (q : Refusal) (held : Held) (width : ℕ) (m : Message)
-      → (tile_after (NotReceived q) held.tile width m ≡ held.tile) × (editions_after (NotReceived q) held.editions width m ≡ held.editions)
+      → (tile_after (Err q) held.tile width m ≡ held.tile) × (editions_after (Err q) held.editions width m ≡ held.editions)

@@ -9,21 +9,19 @@ use Rattle.encode.specs.Encoder.{compressed}
 use Rattle.decode.specs.Meaning.{block_index}
 use Rattle.decode.specs.Exact.{exact_num, exact_den, Close}
 use Rattle.place.specs.Place.{along, bc4_size, block_at, block_of}
-use Rattle.refusal.specs.declared.Checked.TheVariants.{Passed}
-use Rattle.bc4.specs.declared.Encoded.TheVariants.{Block}
-use Rattle.bc4.specs.declared.Tiled.TheVariants.{Written}
+use Rattle.core.specs.declared.result.Result.TheVariants.{Ok}
 use Rattle.bc4.specs.Calls.{encode_answer, samples_after, tile_answer, out_after}
 
 pub record Demand2 : Type 0 where
   -- of sixteen samples, none of them NaN
   pub encoded : (samples : List Float) (o : Options) → length samples ≡ 16 → ((i : ℕ) → i < 16 → is_nan (pixel_at samples i) ≡ false)
-      → encode_answer samples o ≡ Block (compressed samples o)
+      → encode_answer samples o ≡ Ok (compressed samples o)
   -- pixel i of eight bytes, in the array that decode was lent
   pub near : (encoded : List ℕ) (snorm : Bool) (before : List Float) (i : ℕ) → i < 16
       → let n = from_bytes encoded in
-      Close (pixel_at (samples_after Passed encoded snorm before) i) (exact_num snorm (byte_at n 0) (byte_at n 1) (block_index n i)) (exact_den snorm (byte_at n 0) (byte_at n 1))
+      Close (pixel_at (samples_after (Ok tt) encoded snorm before) i) (exact_num snorm (byte_at n 0) (byte_at n 1) (block_index n i)) (exact_den snorm (byte_at n 0) (byte_at n 1))
   -- of a tile that is not refused: the block call accepts each block, and its eight bytes stand at the block's place
-  pub tiled : (samples : List Float) (width height : ℕ) (o : Options) (out : List ℕ) (n : ℕ) → tile_answer samples width height (length out) ≡ Written n
+  pub tiled : (samples : List Float) (width height : ℕ) (o : Options) (out : List ℕ) (n : ℕ) → tile_answer samples width height (length out) ≡ Ok n
       → (column row : ℕ) → column < along width → row < along height
-      → (encode_answer (block_of samples width column row) o ≡ Block (compressed (block_of samples width column row) o))
-      × (take bc4_size (drop (block_at bc4_size width column row) (out_after (Written n) samples width height o out)) ≡ bytes_of (compressed (block_of samples width column row) o))
+      → (encode_answer (block_of samples width column row) o ≡ Ok (compressed (block_of samples width column row) o))
+      × (take bc4_size (drop (block_at bc4_size width column row) (out_after (Ok n) samples width height o out)) ≡ bytes_of (compressed (block_of samples width column row) o))

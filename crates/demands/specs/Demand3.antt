@@ -21,8 +21,8 @@ use Rattle.encode.specs.Encoder.{searches, compressed}
 use Rattle.search.specs.Covered.{Covered, pair_error, OfPair}
 use Rattle.decode.specs.BlockError.{block_error}
 use Rattle.bc4.specs.declared.Kept.{Kept}
-use Rattle.bc4.specs.declared.Resent.{Resent}
-use Rattle.bc4.specs.declared.Resent.TheVariants.{Block as Answered, Refused as NotResent}
+use Rattle.refusal.specs.Refusals.{Answer}
+use Rattle.core.specs.declared.result.Result.TheVariants.{Ok, Err}
 use Rattle.bc4.specs.Calls.{resend_answer}
 use Rattle.demands.specs.Exactly.{Iff}
 
@@ -57,9 +57,9 @@ pub record NoLarger (kind : Kind) (b : List Float) (p q : Pair) : Type 0 where
   pub no_larger : lt (error_of kind b p) (error_of kind b q) ≡ false
 
 -- ---- resends: the station holds the bytes that the answer hands back, whatever the flag says. A refused resend brings none.
-abbrev pub held_after : List ℕ → Resent → List ℕ
-held_after held (Answered h) = bytes_of h.block
-held_after held (NotResent q) = held
+abbrev pub held_after : List ℕ → Answer Kept → List ℕ
+held_after held (Ok h) = bytes_of h.block
+held_after held (Err q) = held
 
 unfoldable pub series : List Float → List ℕ → List Options → List ℕ
 series samples held [] = held
@@ -96,7 +96,7 @@ pub record Demand3 : Type 0 where
   pub resends : (s : List Float) (snorm : Bool) (held : List ℕ) → AllBytes held → (os ps : List Options) → AllIn snorm os → AllIn snorm ps
       → StaysOrBetter snorm s (series s held os) (series s held (os ++ ps))
   -- the flag is set exactly when the bytes handed back are not the held ones
-  pub flagged : (s : List Float) (held : List ℕ) → AllBytes held → (o : Options) (h : Kept) → resend_answer s held o ≡ Answered h
+  pub flagged : (s : List Float) (held : List ℕ) → AllBytes held → (o : Options) (h : Kept) → resend_answer s held o ≡ Ok h
       → Iff (h.fresh ≡ true) (bytes_of h.block ≡ held → ⊥)
   pub errors_finite : (s : List Float) (snorm : Bool) (n : ℕ) → Within 64 (block_error s n snorm)
   -- where the exhaustive search applies: a covered pair is written, in one of the modes,

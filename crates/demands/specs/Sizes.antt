@@ -3,14 +3,14 @@ use Rattle.std.specs.Prelude.{◌≡◌, ◌⊎◌, ℕ}
 use Rattle.refusal.specs.declared.Refusal.{Refusal}
 use Rattle.refusal.specs.declared.Refusal.TheVariants.{SideIsZero, SideTooLarge, SideNotMultipleOf4}
 use Rattle.refusal.specs.declared.Side.TheVariants.{Width, Height}
-use Rattle.refusal.specs.declared.Checked.TheVariants.{Passed, Refused}
+use Rattle.core.specs.declared.result.Result.TheVariants.{Ok, Err}
 use Rattle.refusal.specs.Refusals.{first_of, size_checks}
 use Rattle.demands.specs.Exactly.{Iff, AnyOf, InNumberOrder}
 use Rattle.demands.specs.Conditions.{BadSide, SizeRefuses}
 
 -- what the one list of checks answers for a size
 abbrev pub Answers : ℕ → ℕ → Refusal → Type 0
-Answers width height q = first_of (size_checks width height) ≡ Refused q
+Answers width height q = first_of (size_checks width height) ≡ Err q
 
 pub record Sizes : Type 0 where
   -- each number and side exactly when, and no number is given where a lower one of the three applies to either side
@@ -25,4 +25,4 @@ pub record Sizes : Type 0 where
   pub six_by_six : Answers 6 6 (SideNotMultipleOf4 Width)
   pub none_by_none : Answers 0 0 (SideIsZero Width)
   pub long_by_none : Answers 2000 0 (SideIsZero Height)
-  pub largest : first_of (size_checks 1024 1024) ≡ Passed
+  pub largest : first_of (size_checks 1024 1024) ≡ Ok tt

@@ -1,12 +1,13 @@
 -- Document 02, 5/12: what is promised of a station besides its refusals, which are in `Demand1`. `received` is what the call leaves of one message, `arrived` of
 -- messages one after the other, `history` with clears between them; each is over the answer that the contract of `station` cites.
+use Rattle.core.specs.declared.result.Result.TheVariants.{Ok, Err}
 use Rattle.std.specs.Prelude.{◌≡◌, List, ◌∷◌, ◌++◌, ℕ, ◌+◌, ◌-◌, ◌/◌, ◌%◌, ◌<◌, ◌≤◌, length}
 use Rattle.refusal.specs.declared.Refusal.TheVariants.{EditionReused, EditionOpposite}
-use Rattle.refusal.specs.declared.Checked.TheVariants.{Passed}
+use Rattle.refusal.specs.Refusals.{Answer, refusal_in}
 use Rattle.station.specs.declared.Received.{Received}
-use Rattle.station.specs.declared.Received.TheVariants.{Taken, Repeated, Replaced, Old, Refused as NotReceived}
+use Rattle.station.specs.declared.Received.TheVariants.{Taken, Repeated, Replaced, Old}
 use Rattle.station.specs.Editions.{Message, Held, entry_at, bytes_at}
-use Rattle.station.specs.Receiving.{receive_answer, of_received}
+use Rattle.station.specs.Receiving.{receive_answer}
 use Rattle.station.specs.Histories.{received, started_anew, arrived, Event, history, arrivals, Among, AllAmong, For, SamePlace, Orderly, Newest, Holds, Sized}
 use Rattle.station.specs.Histories.Event.{Clears}
 
@@ -18,24 +19,24 @@ pub record Fitting (width height : ℕ) (held : Held) (m : Message) : Type 0 whe
   pub eight : length m.block ≡ 8
 
 -- the answer where the message's edition is d steps after the held one
-pub record BySteps (answer : Received) (d : ℕ) (bytes block : List ℕ) : Type 0 where
-  pub repeated : d ≡ 0 → bytes ≡ block → answer ≡ Repeated
-  pub reused : d ≡ 0 → (bytes ≡ block → ⊥) → answer ≡ NotReceived EditionReused
-  pub newer : 1 ≤ d → d ≤ 32767 → answer ≡ Replaced
-  pub opposite : d ≡ 32768 → answer ≡ NotReceived EditionOpposite
-  pub older : 32769 ≤ d → d ≤ 65535 → answer ≡ Old
+pub record BySteps (answer : Answer Received) (d : ℕ) (bytes block : List ℕ) : Type 0 where
+  pub repeated : d ≡ 0 → bytes ≡ block → answer ≡ Ok Repeated
+  pub reused : d ≡ 0 → (bytes ≡ block → ⊥) → answer ≡ Err EditionReused
+  pub newer : 1 ≤ d → d ≤ 32767 → answer ≡ Ok Replaced
+  pub opposite : d ≡ 32768 → answer ≡ Err EditionOpposite
+  pub older : 32769 ≤ d → d ≤ 65535 → answer ≡ Ok Old
 
 pub record OneMessage (width height : ℕ) (held : Held) (m : Message) : Type 0 where
   -- An empty place takes it, whatever bytes the tile has there.
-  pub empty : Fitting width height held m → entry_at held width m.column m.row ≡ 0 → receive_answer held width height m ≡ Taken
+  pub empty : Fitting width height held m → entry_at held width m.column m.row ≡ 0 → receive_answer held width height m ≡ Ok Taken
   -- Any other entry n is edition n - 1, and editions wrap at 65,536.
   pub full : Fitting width height held m → (n d : ℕ) → entry_at held width m.column m.row ≡ n → 0 < n → m.edition ≡ (n - 1 + d) % 65536
       → BySteps (receive_answer held width height m) d (bytes_at held width m.column m.row) m.block
   -- What it leaves: bytes and edition together, or nothing changed; and nothing at any other place, also where it does not fit.
-  pub taken : receive_answer held width height m ≡ Taken → Holds (received width height held m) width m
-  pub replaced : receive_answer held width height m ≡ Replaced → Holds (received width height held m) width m
-  pub repeated : receive_answer held width height m ≡ Repeated → received width height held m ≡ held
-  pub old : receive_answer held width height m ≡ Old → received width height held m ≡ held
+  pub taken : receive_answer held width height m ≡ Ok Taken → Holds (received width height held m) width m
+  pub replaced : receive_answer held width height m ≡ Ok Replaced → Holds (received width height held m) width m
+  pub repeated : receive_answer held width height m ≡ Ok Repeated → received width height held m ≡ held
+  pub old : receive_answer held width height m ≡ Ok Old → received width height held m ≡ held
   pub nowhere_else : (column row : ℕ) → column < width / 4 → (For column row m → ⊥)
       → (bytes_at (received width height held m) width column row ≡ bytes_at held width column row)
       × (entry_at (received width height held m) width column row ≡ entry_at held width column row)
@@ -54,7 +55,7 @@ pub record Converging (width height : ℕ) (step : Message → ℕ) (sent : List
       × (entry_at (arrived width height (started_anew start) ms) width column row ≡ 0)
   -- None is refused, whatever arrived before it.
   pub never_refused : (ms : List Message) → AllAmong ms sent → (m : Message) → Among m sent
-      → of_received (receive_answer (arrived width height (started_anew start) ms) width height m) ≡ Passed
+      → refusal_in (receive_answer (arrived width height (started_anew start) ms) width height m) ≡ Ok tt
   -- Once every one that was sent arrived, each place that was sent to holds its newest.
   pub converges : (ms : List Message) → AllAmong ms sent → AllAmong sent ms → (m : Message)
       → Newest (λ n. Among n sent) step m → Holds (arrived width height (started_anew start) ms) width m

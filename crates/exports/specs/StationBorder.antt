@@ -1,11 +1,16 @@
 -- How the answers of `station` cross to C: what became of a message, as a number. A refused call leaves it as it was.
+use Rattle.core.specs.declared.result.Result.TheVariants.{Ok, Err}
 use Rattle.std.specs.Prelude.{ℕ}
+use Rattle.refusal.specs.Refusals.{Answer}
 use Rattle.station.specs.declared.Received.{Received}
-use Rattle.station.specs.declared.Received.TheVariants.{Taken, Repeated, Replaced, Old, Refused as NotReceived}
+use Rattle.station.specs.declared.Received.TheVariants.{Taken, Repeated, Replaced, Old}
 
-abbrev pub outcome_after : Received → ℕ → ℕ
-outcome_after Taken before = 1
-outcome_after Repeated before = 2
-outcome_after Replaced before = 3
-outcome_after Old before = 4
-outcome_after (NotReceived q) before = before
+abbrev pub outcome_number : Received → ℕ
+outcome_number Taken = 1
+outcome_number Repeated = 2
+outcome_number Replaced = 3
+outcome_number Old = 4
+
+abbrev pub outcome_after : Answer Received → ℕ → ℕ
+outcome_after (Ok received) before = outcome_number received
+outcome_after (Err q) before = before

@@ -3,10 +3,10 @@
 #![tactic(auto)]
 
 ghost use Rattle.std.specs.Prelude.{◌≡◌, cond, length};
-ghost use Rattle.refusal.specs.Refusals.{number_of, detail_of, first_of, decode_checks, view_checks};
-ghost use Rattle.bc4.specs.Calls.{of_encoded, of_scored, of_resent, of_tiled, samples_after, error_answer, out_after};
+ghost use Rattle.refusal.specs.Refusals.{refusal_in, number_of, detail_of, first_of, decode_checks, view_checks};
+ghost use Rattle.bc4.specs.Calls.{samples_after, error_answer, out_after};
 ghost use Rattle.bc4.specs.Word.{encode_by_word, resend_by_word, tile_by_word};
-ghost use Rattle.dds.specs.Calls.{write_answer, of_written, file_after, read_answer, of_found};
+ghost use Rattle.dds.specs.Calls.{write_answer, file_after, read_answer};
 ghost use Rattle.exports.specs.Border.{word_of_number, number_in, detail_after, block_after, error_after, held_after, fresh_after, written_after, offset_after};
 ghost use Rattle.exports.specs.DdsBorder.{file_written_after, width_after, height_after, snorm_after, start_after};
 
@@ -14,8 +14,7 @@ mod channels;
 mod messages;
 
 use bc4::word::Word;
-use bc4::{Checked, Encoded, Refusal, Resent, Scored, Tiled};
-use dds::{Found, Written};
+use bc4::Refusal;
 
 // Major, minor and patch number, a byte each: 3.2.0.
 #[unsafe(no_mangle)]
@@ -52,17 +51,16 @@ pub extern "C" fn bc4_encode_block(
     block: &mut [u8; 8],
     detail: &mut [usize; 4],
 ) -> u32
-    ensures number { result ≡ number_in (of_encoded (encode_by_word samples.now (word_of_number options))) }
+    ensures number { result ≡ number_in (refusal_in (encode_by_word samples.now (word_of_number options))) }
     ensures block { block.new ≡ block_after (encode_by_word samples.now (word_of_number options)) block.old }
-    ensures detail { detail.new ≡ detail_after (of_encoded (encode_by_word samples.now (word_of_number options))) detail.old }
+    ensures detail { detail.new ≡ detail_after (refusal_in (encode_by_word samples.now (word_of_number options))) detail.old }
 {
-    let answer = bc4::word::encode_block(samples, word_in(options));
-    match answer {
-        Encoded::Block(b) => {
+    match bc4::word::encode_block(samples, word_in(options)) {
+        Ok(b) => {
             *block = bc4::bytes(b);
             0
         }
-        Encoded::Refused(q) => refused(q, detail),
+        Err(q) => refused(q, detail),
     }
 }
 
@@ -77,10 +75,9 @@ pub extern "C" fn bc4_decode_block(
     ensures samples { samples.new ≡ samples_after (first_of (decode_checks encoded.now)) encoded.now snorm samples.old }
     ensures detail { detail.new ≡ detail_after (first_of (decode_checks encoded.now)) detail.old }
 {
-    let checked = bc4::decode_block(encoded, snorm, samples);
-    match checked {
-        Checked::Refused(q) => refused(q, detail),
-        Checked::Passed => 0,
+    match bc4::decode_block(encoded, snorm, samples) {
+        Err(q) => refused(q, detail),
+        Ok(()) => 0,
     }
 }
 
@@ -92,17 +89,16 @@ pub extern "C" fn bc4_block_error(
     error: &mut f32,
     detail: &mut [usize; 4],
 ) -> u32
-    ensures number { result ≡ number_in (of_scored (error_answer samples.now encoded.now snorm)) }
+    ensures number { result ≡ number_in (refusal_in (error_answer samples.now encoded.now snorm)) }
     ensures error { error.new ≡ error_after (error_answer samples.now encoded.now snorm) error.old }
-    ensures detail { detail.new ≡ detail_after (of_scored (error_answer samples.now encoded.now snorm)) detail.old }
+    ensures detail { detail.new ≡ detail_after (refusal_in (error_answer samples.now encoded.now snorm)) detail.old }
 {
-    let answer = bc4::block_error(samples, encoded, snorm);
-    match answer {
-        Scored::Error(e) => {
+    match bc4::block_error(samples, encoded, snorm) {
+        Ok(e) => {
             *error = e;
             0
         }
-        Scored::Refused(q) => refused(q, detail),
+        Err(q) => refused(q, detail),
     }
 }
 
@@ -116,19 +112,18 @@ pub extern "C" fn bc4_resend(
     fresh: &mut u8,
     detail: &mut [usize; 4],
 ) -> u32
-    ensures number { result ≡ number_in (of_resent (resend_by_word samples.now held.now (word_of_number options))) }
+    ensures number { result ≡ number_in (refusal_in (resend_by_word samples.now held.now (word_of_number options))) }
     ensures block { block.new ≡ held_after (resend_by_word samples.now held.now (word_of_number options)) block.old }
     ensures fresh { fresh.new ≡ fresh_after (resend_by_word samples.now held.now (word_of_number options)) fresh.old }
-    ensures detail { detail.new ≡ detail_after (of_resent (resend_by_word samples.now held.now (word_of_number options))) detail.old }
+    ensures detail { detail.new ≡ detail_after (refusal_in (resend_by_word samples.now held.now (word_of_number options))) detail.old }
 {
-    let answer = bc4::word::resend(samples, held, word_in(options));
-    match answer {
-        Resent::Block(h) => {
+    match bc4::word::resend(samples, held, word_in(options)) {
+        Ok(h) => {
             *block = bc4::bytes(h.block);
             *fresh = bit(h.fresh);
             0
         }
-        Resent::Refused(q) => refused(q, detail),
+        Err(q) => refused(q, detail),
     }
 }
 
@@ -148,18 +143,17 @@ pub extern "C" fn bc4_encode_tile(
     written: &mut usize,
     detail: &mut [usize; 4],
 ) -> u32
-    ensures number { result ≡ number_in (of_tiled (tile_by_word samples.now width height (word_of_number options) (length out.old))) }
+    ensures number { result ≡ number_in (refusal_in (tile_by_word samples.now width height (word_of_number options) (length out.old))) }
     ensures bytes { out.new ≡ out_after (tile_by_word samples.now width height (word_of_number options) (length out.old)) samples.now width height (word_of_number options).options out.old }
     ensures written { written.new ≡ written_after (tile_by_word samples.now width height (word_of_number options) (length out.old)) written.old }
-    ensures detail { detail.new ≡ detail_after (of_tiled (tile_by_word samples.now width height (word_of_number options) (length out.old))) detail.old }
+    ensures detail { detail.new ≡ detail_after (refusal_in (tile_by_word samples.now width height (word_of_number options) (length out.old))) detail.old }
 {
-    let answer = bc4::word::encode_tile(samples, width, height, word_in(options), out);
-    match answer {
-        Tiled::Written(n) => {
+    match bc4::word::encode_tile(samples, width, height, word_in(options), out) {
+        Ok(n) => {
             *written = n;
             0
         }
-        Tiled::Refused(q) => refused(q, detail),
+        Err(q) => refused(q, detail),
     }
 }
 
@@ -178,10 +172,9 @@ pub extern "C" fn bc4_block_view(
     ensures offset { offset.new ≡ offset_after (first_of (view_checks (length tile.now) width height column row)) width column row offset.old }
     ensures detail { detail.new ≡ detail_after (first_of (view_checks (length tile.now) width height column row)) detail.old }
 {
-    let checked = bc4::view_refusal(tile, width, height, column, row);
-    match checked {
-        Checked::Refused(q) => refused(q, detail),
-        Checked::Passed => {
+    match bc4::view_refusal(tile, width, height, column, row) {
+        Err(q) => refused(q, detail),
+        Ok(()) => {
             *offset = place::block_at(place::BC4_SIZE, width, column, row);
             0
         }
@@ -198,18 +191,17 @@ pub extern "C" fn bc4_write_dds(
     written: &mut usize,
     detail: &mut [usize; 4],
 ) -> u32
-    ensures number { result ≡ number_in (of_written (write_answer (length tile.now) width height (length out.old))) }
+    ensures number { result ≡ number_in (refusal_in (write_answer (length tile.now) width height (length out.old))) }
     ensures bytes { out.new ≡ file_after (write_answer (length tile.now) width height (length out.old)) tile.now width height snorm out.old }
     ensures written { written.new ≡ file_written_after (write_answer (length tile.now) width height (length out.old)) written.old }
-    ensures detail { detail.new ≡ detail_after (of_written (write_answer (length tile.now) width height (length out.old))) detail.old }
+    ensures detail { detail.new ≡ detail_after (refusal_in (write_answer (length tile.now) width height (length out.old))) detail.old }
 {
-    let answer = dds::write(tile, width, height, snorm, out);
-    match answer {
-        Written::Bytes(n) => {
+    match dds::write(tile, width, height, snorm, out) {
+        Ok(n) => {
             *written = n;
             0
         }
-        Written::Refused(q) => refused(q, detail),
+        Err(q) => refused(q, detail),
     }
 }
 
@@ -223,22 +215,21 @@ pub extern "C" fn bc4_read_dds(
     offset: &mut usize,
     detail: &mut [usize; 4],
 ) -> u32
-    ensures number { result ≡ number_in (of_found (read_answer file.now)) }
+    ensures number { result ≡ number_in (refusal_in (read_answer file.now)) }
     ensures width { width.new ≡ width_after (read_answer file.now) width.old }
     ensures height { height.new ≡ height_after (read_answer file.now) height.old }
     ensures snorm { snorm.new ≡ snorm_after (read_answer file.now) snorm.old }
     ensures offset { offset.new ≡ start_after (read_answer file.now) offset.old }
-    ensures detail { detail.new ≡ detail_after (of_found (read_answer file.now)) detail.old }
+    ensures detail { detail.new ≡ detail_after (refusal_in (read_answer file.now)) detail.old }
 {
-    let answer = dds::read(file);
-    match answer {
-        Found::File(picture) => {
+    match dds::read(file) {
+        Ok(picture) => {
             *width = picture.width;
             *height = picture.height;
             *snorm = bit(picture.snorm);
             *offset = picture.start;
             0
         }
-        Found::Refused(q) => refused(q, detail),
+        Err(q) => refused(q, detail),
     }
 }

@@ -1,9 +1,10 @@
 // The calls of `station` for C: include/station.h says what each does.
 ghost use Rattle.std.specs.Prelude.{◌≡◌};
 ghost use Rattle.station.specs.Editions.{message, holding};
-ghost use Rattle.station.specs.Receiving.{receive_answer, tile_after, editions_after, of_received, cleared};
+ghost use Rattle.station.specs.Receiving.{receive_answer, tile_after, editions_after, cleared};
+ghost use Rattle.refusal.specs.Refusals.{refusal_in};
 ghost use Rattle.exports.specs.Border.{number_in, detail_after};
-ghost use Rattle.exports.specs.StationBorder.{outcome_after};
+ghost use Rattle.exports.specs.StationBorder.{outcome_number, outcome_after};
 
 use crate::refused;
 use station::Received;
@@ -21,31 +22,30 @@ pub extern "C" fn bc4_receive(
     outcome: &mut u8,
     detail: &mut [usize; 4],
 ) -> u32
-    ensures number { result ≡ number_in (of_received (receive_answer (holding tile.old editions.old) width height (message column row edition block.now))) }
+    ensures number { result ≡ number_in (refusal_in (receive_answer (holding tile.old editions.old) width height (message column row edition block.now))) }
     ensures tile { tile.new ≡ tile_after (receive_answer (holding tile.old editions.old) width height (message column row edition block.now)) tile.old width (message column row edition block.now) }
     ensures editions { editions.new ≡ editions_after (receive_answer (holding tile.old editions.old) width height (message column row edition block.now)) editions.old width (message column row edition block.now) }
     ensures outcome { outcome.new ≡ outcome_after (receive_answer (holding tile.old editions.old) width height (message column row edition block.now)) outcome.old }
-    ensures detail { detail.new ≡ detail_after (of_received (receive_answer (holding tile.old editions.old) width height (message column row edition block.now))) detail.old }
+    ensures detail { detail.new ≡ detail_after (refusal_in (receive_answer (holding tile.old editions.old) width height (message column row edition block.now))) detail.old }
 {
-    let answer = station::receive(tile, editions, width, height, column, row, edition, block);
-    match answer {
-        Received::Taken => {
-            *outcome = 1;
+    match station::receive(tile, editions, width, height, column, row, edition, block) {
+        Ok(received) => {
+            *outcome = number_of(received);
             0
         }
-        Received::Repeated => {
-            *outcome = 2;
-            0
-        }
-        Received::Replaced => {
-            *outcome = 3;
-            0
-        }
-        Received::Old => {
-            *outcome = 4;
-            0
-        }
-        Received::Refused(q) => refused(q, detail),
+        Err(q) => refused(q, detail),
+    }
+}
+
+// What became of a message, as a number.
+fn number_of(received: Received) -> u8
+    ensures { result ≡ outcome_number received }
+{
+    match received {
+        Received::Taken => 1,
+        Received::Repeated => 2,
+        Received::Replaced => 3,
+        Received::Old => 4,
     }
 }
 

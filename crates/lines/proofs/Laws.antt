@@ -7,8 +7,8 @@ use native.Mathlib.Omega.{arith}
 use lib.ListN.{length, take, drop, length-append, length-take, length-drop, drop_of_length-le}
 use lib.Seq.{length-take-le, take_all, take-length, take_at, drop_at, drop-drop}
 use borrow.Rule.Slice.PartMut.{put_mid}
-use Rattle.bc4.specs.declared.Encoded.{Encoded}
-use Rattle.bc4.specs.declared.Encoded.TheVariants.{Block, Refused}
+use Rattle.refusal.specs.Refusals.{Answer}
+use Rattle.core.specs.declared.result.Result.TheVariants.{Ok, Err}
 use Rattle.lines.specs.declared.output.Line.{Line}
 use Rattle.lines.specs.Output.{hex_line, refused_line, Holds}
 use Rattle.lines.specs.Answers.{answer_of, line_of, record_at, lines_to, AtStart}
@@ -47,10 +47,10 @@ line_bytes {l} h = length-take-le l.length l.bytes (omega arith)
 written_length : {text before after : List ℕ} {n : ℕ} → AtStart text before after n → length text ≡ n
 written_length {text} {before} {after} {n} w = ap length (sym w.start) ∙ length-take n after ∙ min-eq_left w.within
 
-line_length : (a : Encoded) → length (line_of a) ≤ 17
+line_length : (a : Answer ℕ) → length (line_of a) ≤ 17
 unfolding line_of hex_line refused_line
-line_length (Block b) = omega arith
-line_length (Refused q) = omega arith
+line_length (Ok b) = omega arith
+line_length (Err q) = omega arith
 
 lines_length : (input : List ℕ) (n : ℕ) → length (lines_to input n) ≤ n * 17
 unfolding lines_to

@@ -1,18 +1,17 @@
 -- What the program answers. Document 01, "The program": the block call's answer, one line per record; a malformed word is refusal 8, after 7.
 use Rattle.std.specs.Prelude.{◌≡◌, List, [], ◌++◌, cond, ℕ, zero, suc, ◌*◌, ◌/◌, ◌%◌, ◌≤◌, eqb, length, take, drop}
-use Rattle.bc4.specs.declared.Encoded.{Encoded}
-use Rattle.bc4.specs.declared.Encoded.TheVariants.{Block, Refused}
-use Rattle.refusal.specs.Refusals.{number_of}
+use Rattle.core.specs.declared.result.Result.TheVariants.{Ok, Err}
+use Rattle.refusal.specs.Refusals.{Answer, number_of}
 use Rattle.bc4.specs.Word.{encode_by_word}
 use Rattle.lines.specs.Input.{record_word, samples_of}
 use Rattle.lines.specs.Output.{hex_line, refused_line, short_line}
 
-abbrev pub answer_of : List ℕ → Encoded
+abbrev pub answer_of : List ℕ → Answer ℕ
 answer_of bytes = encode_by_word (samples_of bytes) (record_word bytes)
 
-unfoldable pub line_of : Encoded → List ℕ
-line_of (Block b) = hex_line b
-line_of (Refused q) = refused_line (number_of q)
+unfoldable pub line_of : Answer ℕ → List ℕ
+line_of (Ok b) = hex_line b
+line_of (Err q) = refused_line (number_of q)
 
 -- record i of the input
 abbrev pub record_at : List ℕ → ℕ → List ℕ

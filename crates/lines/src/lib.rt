@@ -8,10 +8,10 @@ ghost use Rattle.lines.specs.Output.{Holds};
 mod input;
 mod output;
 
-use bc4::Encoded;
+use bc4::Refusal;
 use output::Line;
 
-pub fn answer_to(bytes: &[u8]) -> Encoded
+pub fn answer_to(bytes: &[u8]) -> Result<u64, Refusal>
     requires { length bytes.now ≡ 68 }
     ensures { result ≡ answer_of bytes.now }
 {
@@ -24,10 +24,9 @@ fn line(bytes: &[u8]) -> Line
     requires { length bytes.now ≡ 68 }
     ensures { Holds result (line_of (answer_of bytes.now)) }
 {
-    let answer = answer_to(bytes);
-    match answer {
-        Encoded::Block(block) => output::hex(block),
-        Encoded::Refused(q) => output::refused(bc4::number(q)),
+    match answer_to(bytes) {
+        Ok(block) => output::hex(block),
+        Err(q) => output::refused(bc4::number(q)),
     }
 }
 

@@ -4,18 +4,18 @@ use mathlib.Core.Bool.{false}
 use Prim.Native.Nat.{ℕ}
 use Rattle.place.specs.Place.{bad_side, bad_size}
 use Rattle.place.proofs.Places.{neither, good_sides}
-use Rattle.refusal.specs.declared.Checked.TheVariants.{Passed}
+use Rattle.core.specs.declared.result.Result.TheVariants.{Ok}
 use Rattle.refusal.specs.Refusals.{first_of, size_checks}
 use Rattle.refusal.proofs.Firsts.{first_clear, clear_passed}
 
 module _ (width height : ℕ) where
-  pub size_passed : first_of (size_checks width height) ≡ Passed → bad_size width height ≡ false
+  pub size_passed : first_of (size_checks width height) ≡ Ok tt → bad_size width height ≡ false
   unfolding size_checks bad_size bad_side
   size_passed passed =
       let clear = first_clear (size_checks width height) passed in
       rw (clear.0, clear.1.0, clear.1.1.0, clear.1.1.1.0, clear.1.1.1.1.0, clear.1.1.1.1.1.0)
 
-  pub good_passes : bad_size width height ≡ false → first_of (size_checks width height) ≡ Passed
+  pub good_passes : bad_size width height ≡ false → first_of (size_checks width height) ≡ Ok tt
   unfolding size_checks bad_side
   good_passes good =
       let sides = good_sides width height good in

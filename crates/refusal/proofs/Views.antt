@@ -6,7 +6,7 @@ use native.Mathlib.Omega.{arith}
 use lib.ListN.{length}
 use Rattle.place.specs.Place.{longest_side, along, bc5_size, block_at}
 use Rattle.place.proofs.Places.{bytes_small, row_room, block_there, block_within}
-use Rattle.refusal.specs.declared.Checked.TheVariants.{Passed}
+use Rattle.core.specs.declared.result.Result.TheVariants.{Ok}
 use Rattle.refusal.specs.Refusals.{first_of, place_check, bytes_checks_of, view_checks_of}
 use Rattle.refusal.proofs.Firsts.{first_clear, both_passed}
 use Rattle.refusal.proofs.Tiles.{bytes_passed}
@@ -16,7 +16,7 @@ abbrev pub InTile : ℕ → List ℕ → ℕ → ℕ → ℕ → Type 0
 InTile size tile width column row =
     (row * along width + column ≤ longest_side * longest_side) × (block_at size width column row + size ≤ length tile) × (length tile ≤ longest_side * longest_side)
 
-pub view_room : {size : ℕ} → size ≤ bc5_size → (tile : List ℕ) (width height column row : ℕ) → first_of (view_checks_of size (length tile) width height column row) ≡ Passed
+pub view_room : {size : ℕ} → size ≤ bc5_size → (tile : List ℕ) (width height column row : ℕ) → first_of (view_checks_of size (length tile) width height column row) ≡ Ok tt
     → InTile size tile width column row
 view_room {size} most tile width height column row passed =
     let both = both_passed (bytes_checks_of size (length tile) width height) (place_check width height column row ∷ []) passed in

@@ -1,6 +1,6 @@
 -- Document 01, "Calls and numbers", and document 02: the refusals, their numbers, and what each call checks, as a list: the first check of it that applies is the answer.
 -- Lists of document 01 without a size are in number order; nothing here rests on that, and `demands` shows it.
-use Rattle.std.specs.Prelude.{Bool, not, cond, List, [], ◌∷◌, ◌++◌, ℕ, suc, ◌*◌, ◌/◌, ◌%◌, ltb, eqb, length, Float}
+use Rattle.std.specs.Prelude.{Bool, not, cond, List, [], ◌∷◌, ◌++◌, ℕ, suc, ◌*◌, ◌/◌, ◌%◌, ltb, eqb, length, Float, ⊤}
 use Rattle.std.specs.Float.Ieee.{is_nan}
 use Rattle.options.specs.declared.Options.{Options}
 use Rattle.place.specs.Place.{longest_side, no_block, bc4_size, encoded_length}
@@ -10,8 +10,8 @@ use Rattle.refusal.specs.declared.Side.TheVariants.{Width, Height}
 use Rattle.refusal.specs.declared.Spot.{Spot}
 use Rattle.refusal.specs.declared.Channel.{Channel}
 use Rattle.refusal.specs.declared.Fault.TheVariants.{Count, Nan, TileNan}
-use Rattle.refusal.specs.declared.Checked.{Checked}
-use Rattle.refusal.specs.declared.Checked.TheVariants.{Passed, Refused}
+use Rattle.core.specs.declared.result.Result.{Result}
+use Rattle.core.specs.declared.result.Result.TheVariants.{Ok, Err}
 use Rattle.refusal.specs.Names.{number_for, what_side, what_of, fault_number, fault_detail}
 
 -- the document's number of a refusal
@@ -54,6 +54,17 @@ detail_of DdsBody before = before
 detail_of EditionReused before = before
 detail_of EditionOpposite before = before
 
+-- ---- what a call answers: its value, or the refusal that stands in its place; and that without the value, as checks alone answer
+abbrev pub Answer : Type 0 → Type 0
+Answer A = Result A Refusal
+
+abbrev pub Checked : Type 0
+Checked = Answer ⊤
+
+abbrev pub refusal_in : {A : Type 0} → Answer A → Checked
+refusal_in (Ok value) = Ok tt
+refusal_in (Err q) = Err q
+
 -- ---- a check: a refusal, and whether it applies
 pub record Check : Type 0 where
   pub refusal : Refusal
@@ -64,13 +75,13 @@ when refusal applies = record { refusal = refusal; applies = applies }
 
 -- the first check of a list that applies
 unfoldable pub first_of : List Check → Checked
-first_of [] = Passed
-first_of (c ∷ cs) = cond c.applies (Refused c.refusal) (first_of cs)
+first_of [] = Ok tt
+first_of (c ∷ cs) = cond c.applies (Err c.refusal) (first_of cs)
 
 -- What a call answers, or leaves in lent memory: what it makes of a refusal, and its value where all checks passed.
 abbrev pub answered : {A : Type 0} → (Refusal → A) → A → Checked → A
-answered refused value Passed = value
-answered refused value (Refused q) = refused q
+answered refused value (Ok tt) = value
+answered refused value (Err q) = refused q
 
 -- ---- each check once
 -- the index of the first NaN, or the length where there is none

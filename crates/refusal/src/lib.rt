@@ -6,6 +6,7 @@ ghost use Rattle.refusal.specs.Refusals.{first_of, or_malformed, encode_checks, 
 
 mod nan;
 mod shape;
+mod shown;
 mod told;
 
 pub use nan::{no_nan_in, no_tile_nan_in};
@@ -99,89 +100,84 @@ pub enum Field {
     ArraySize,
 }
 
-#[derive(Clone, Copy)]
-pub enum Checked {
-    Passed,
-    Refused(Refusal),
-}
-
-pub fn encode(samples: &[f32]) -> Checked
+pub fn encode(samples: &[f32]) -> Result<(), Refusal>
     ensures { result ≡ first_of (encode_checks samples.now) }
 {
     if samples.len() != 16 {
-        return Checked::Refused(Refusal::SampleCount);
+        return Err(Refusal::SampleCount);
     }
     nan::no_nan(samples)
 }
 
-pub fn decode(encoded: &[u8]) -> Checked
+pub fn decode(encoded: &[u8]) -> Result<(), Refusal>
     ensures { result ≡ first_of (decode_checks encoded.now) }
 {
     if encoded.len() != place::BC4_SIZE {
-        return Checked::Refused(Refusal::EncodedLength);
+        return Err(Refusal::EncodedLength);
     }
-    Checked::Passed
+    Ok(())
 }
 
-pub fn error(samples: &[f32], encoded: &[u8]) -> Checked
+pub fn error(samples: &[f32], encoded: &[u8]) -> Result<(), Refusal>
     ensures { result ≡ first_of (error_checks samples.now encoded.now) }
 {
     if samples.len() != 16 {
-        return Checked::Refused(Refusal::SampleCount);
+        return Err(Refusal::SampleCount);
     }
     if encoded.len() != place::BC4_SIZE {
-        return Checked::Refused(Refusal::EncodedLength);
+        return Err(Refusal::EncodedLength);
     }
     nan::no_nan(samples)
 }
 
-pub fn resend(samples: &[f32], held: &[u8], o: Options) -> Checked
+pub fn resend(samples: &[f32], held: &[u8], o: Options) -> Result<(), Refusal>
     ensures { result ≡ first_of (resend_checks samples.now held.now o) }
 {
     if samples.len() != 16 {
-        return Checked::Refused(Refusal::SampleCount);
+        return Err(Refusal::SampleCount);
     }
     if held.len() != place::BC4_SIZE {
-        return Checked::Refused(Refusal::EncodedLength);
+        return Err(Refusal::EncodedLength);
     }
     if o.dither {
-        return Checked::Refused(Refusal::DitheredResend);
+        return Err(Refusal::DitheredResend);
     }
     nan::no_nan(samples)
 }
 
 // `room` is the length of the output.
-pub fn tile(samples: &[f32], width: usize, height: usize, room: usize) -> Checked
+pub fn tile(samples: &[f32], width: usize, height: usize, room: usize) -> Result<(), Refusal>
     ensures { result ≡ first_of (tile_checks samples.now width height room) }
 {
-    let checked = size(width, height);
-    match checked {
-        Checked::Refused(q) => Checked::Refused(q),
-        Checked::Passed => {
-            let area = width * height;
-            if samples.len() != area {
-                return Checked::Refused(Refusal::SampleCount);
-            }
-            if room < place::encoded_length(place::BC4_SIZE, width, height) {
-                return Checked::Refused(Refusal::OutputLength);
-            }
-            nan::no_tile_nan(samples, width)
-        }
+    size(width, height)?;
+    let area = width * height;
+    if samples.len() != area {
+        return Err(Refusal::SampleCount);
     }
+    if room < place::encoded_length(place::BC4_SIZE, width, height) {
+        return Err(Refusal::OutputLength);
+    }
+    nan::no_tile_nan(samples, width)
 }
 
-pub fn view(tile: &[u8], width: usize, height: usize, column: usize, row: usize) -> Checked
+pub fn view(
+    tile: &[u8],
+    width: usize,
+    height: usize,
+    column: usize,
+    row: usize,
+) -> Result<(), Refusal>
     ensures { result ≡ first_of (view_checks (length tile.now) width height column row) }
 {
     view_of(place::BC4_SIZE, tile.len(), width, height, column, row)
 }
 
 // Of a call whose options word is malformed: what the call refuses for another reason comes first.
-pub fn or_malformed(checked: Checked) -> Refusal
+pub fn or_malformed(checked: Result<(), Refusal>) -> Refusal
     ensures { result ≡ or_malformed checked }
 {
     match checked {
-        Checked::Refused(q) => q,
-        Checked::Passed => Refusal::WordMalformed,
+        Err(q) => q,
+        Ok(()) => Refusal::WordMalformed,
     }
 }

@@ -2,7 +2,7 @@
 ghost use Rattle.std.specs.Prelude.{◌≡◌, [], ◌∷◌, ◌<◌, ltb, length};
 ghost use Rattle.refusal.specs.Refusals.{first_of, first_nan, nan_check, nan_in, spot_of, tile_nan_check, tile_nan_in};
 
-use crate::{Channel, Checked, Fault, Refusal, Spot};
+use crate::{Channel, Fault, Refusal, Spot};
 
 // Looks at all of them: without a way out of its loop it takes four at a time.
 fn any_nan(samples: &[f32]) -> bool
@@ -48,43 +48,43 @@ fn first_spot(samples: &[f32], width: usize) -> Spot
     }
 }
 
-pub fn no_nan(samples: &[f32]) -> Checked
+pub fn no_nan(samples: &[f32]) -> Result<(), Refusal>
     ensures { result ≡ first_of (nan_check samples.now ∷ []) }
 {
     if any_nan(samples) {
-        return Checked::Refused(Refusal::SampleIsNan(first_nan(samples)));
+        return Err(Refusal::SampleIsNan(first_nan(samples)));
     }
-    Checked::Passed
+    Ok(())
 }
 
-pub fn no_tile_nan(samples: &[f32], width: usize) -> Checked
+pub fn no_tile_nan(samples: &[f32], width: usize) -> Result<(), Refusal>
     requires { 0 < width }
     ensures { result ≡ first_of (tile_nan_check samples.now width ∷ []) }
 {
     if any_nan(samples) {
-        return Checked::Refused(Refusal::TileSampleIsNan(first_spot(samples, width)));
+        return Err(Refusal::TileSampleIsNan(first_spot(samples, width)));
     }
-    Checked::Passed
+    Ok(())
 }
 
 // The same of one of two channels, which the refusal says.
-pub fn no_nan_in(channel: Channel, samples: &[f32]) -> Checked
+pub fn no_nan_in(channel: Channel, samples: &[f32]) -> Result<(), Refusal>
     ensures { result ≡ first_of (nan_in channel samples.now ∷ []) }
 {
     if any_nan(samples) {
         let index = first_nan(samples);
-        return Checked::Refused(Refusal::InChannel(Fault::Nan(channel, index)));
+        return Err(Refusal::InChannel(Fault::Nan(channel, index)));
     }
-    Checked::Passed
+    Ok(())
 }
 
-pub fn no_tile_nan_in(channel: Channel, samples: &[f32], width: usize) -> Checked
+pub fn no_tile_nan_in(channel: Channel, samples: &[f32], width: usize) -> Result<(), Refusal>
     requires { 0 < width }
     ensures { result ≡ first_of (tile_nan_in channel samples.now width ∷ []) }
 {
     if any_nan(samples) {
         let spot = first_spot(samples, width);
-        return Checked::Refused(Refusal::InChannel(Fault::TileNan(channel, spot)));
+        return Err(Refusal::InChannel(Fault::TileNan(channel, spot)));
     }
-    Checked::Passed
+    Ok(())
 }

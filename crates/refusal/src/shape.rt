@@ -3,12 +3,12 @@ ghost use Rattle.std.specs.Prelude.{◌≡◌, true, ◌≤◌};
 ghost use Rattle.place.specs.Place.{bad_size, bc5_size};
 ghost use Rattle.refusal.specs.Refusals.{first_of, size_checks, bytes_checks_of, bytes_checks, view_checks_of};
 
-use crate::{Checked, Refusal, Side};
+use crate::{Refusal, Side};
 
 // What is wrong with a size that is: by number, and of one number the width before the height.
 fn wrong_size(width: usize, height: usize) -> Refusal
     requires { bad_size width height ≡ true }
-    ensures { Checked.Refused result ≡ first_of (size_checks width height) }
+    ensures { Err result ≡ first_of (size_checks width height) }
 {
     if width == 0 {
         return Refusal::SideIsZero(Side::Width);
@@ -29,33 +29,28 @@ fn wrong_size(width: usize, height: usize) -> Refusal
 }
 
 // A good size passes by a single test.
-pub fn size(width: usize, height: usize) -> Checked
+pub fn size(width: usize, height: usize) -> Result<(), Refusal>
     ensures { result ≡ first_of (size_checks width height) }
 {
     if place::bad_size(width, height) {
-        return Checked::Refused(wrong_size(width, height));
+        return Err(wrong_size(width, height));
     }
-    Checked::Passed
+    Ok(())
 }
 
 // The bytes of a tile: its size, and then their count. `size` is the bytes of a block, here and below.
-fn bytes_of(size: usize, long: usize, width: usize, height: usize) -> Checked
+fn bytes_of(size: usize, long: usize, width: usize, height: usize) -> Result<(), Refusal>
     requires { size ≤ bc5_size }
     ensures { result ≡ first_of (bytes_checks_of size long width height) }
 {
-    let checked = crate::size(width, height);
-    match checked {
-        Checked::Refused(q) => Checked::Refused(q),
-        Checked::Passed => {
-            if long != place::encoded_length(size, width, height) {
-                return Checked::Refused(Refusal::EncodedLength);
-            }
-            Checked::Passed
-        }
+    crate::size(width, height)?;
+    if long != place::encoded_length(size, width, height) {
+        return Err(Refusal::EncodedLength);
     }
+    Ok(())
 }
 
-pub fn tile_bytes(long: usize, width: usize, height: usize) -> Checked
+pub fn tile_bytes(long: usize, width: usize, height: usize) -> Result<(), Refusal>
     ensures { result ≡ first_of (bytes_checks long width height) }
 {
     bytes_of(place::BC4_SIZE, long, width, height)
@@ -69,18 +64,13 @@ pub fn view_of(
     height: usize,
     column: usize,
     row: usize,
-) -> Checked
+) -> Result<(), Refusal>
     requires { size ≤ bc5_size }
     ensures { result ≡ first_of (view_checks_of size long width height column row) }
 {
-    let checked = bytes_of(size, long, width, height);
-    match checked {
-        Checked::Refused(q) => Checked::Refused(q),
-        Checked::Passed => {
-            if (column >= width / 4) | (row >= height / 4) {
-                return Checked::Refused(Refusal::NoSuchBlock);
-            }
-            Checked::Passed
-        }
+    bytes_of(size, long, width, height)?;
+    if (column >= width / 4) | (row >= height / 4) {
+        return Err(Refusal::NoSuchBlock);
     }
+    Ok(())
 }

@@ -34,7 +34,7 @@ fn what_side(side: Side) -> usize
 }
 
 // A field as a number, for a detail.
-fn what_of(field: Field) -> usize
+pub fn what_of(field: Field) -> usize
     ensures { result ≡ what_of field }
 {
     match field {

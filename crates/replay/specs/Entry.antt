@@ -1,7 +1,7 @@
 -- An entry of the list: a record of 68 bytes, and the eight bytes that the Rust text answered.
 use Rattle.std.specs.Prelude.{List, Bool, true, not, cond, ℕ, zero, suc, ◌+◌, ◌*◌, ◌/◌, ◌^◌, eqb, length, take, drop}
-use Rattle.bc4.specs.declared.Encoded.{Encoded}
-use Rattle.bc4.specs.declared.Encoded.TheVariants.{Block, Refused}
+use Rattle.refusal.specs.Refusals.{Answer}
+use Rattle.core.specs.declared.result.Result.TheVariants.{Ok, Err}
 use Rattle.fields.specs.Fields.{field_at}
 use Rattle.replay.specs.declared.Tally.{Tally}
 use Rattle.lines.specs.Answers.{answer_of}
@@ -10,9 +10,9 @@ use Rattle.lines.specs.Answers.{answer_of}
 abbrev pub rust_of : List ℕ → ℕ
 rust_of entry = field_at 4 entry 68 + 2 ^ 32 * field_at 4 entry 72
 
-unfoldable pub unlike : Encoded → ℕ → Bool
-unlike (Block b) rust = not (eqb b rust)
-unlike (Refused q) rust = true
+unfoldable pub unlike : Answer ℕ → ℕ → Bool
+unlike (Ok b) rust = not (eqb b rust)
+unlike (Err q) rust = true
 
 unfoldable pub differs_of : List ℕ → Bool
 differs_of entry = unlike (answer_of (take 68 entry)) (rust_of entry)

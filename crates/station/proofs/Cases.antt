@@ -1,4 +1,5 @@
 -- The document's four cases and its two refusals, at a place that has an entry and eight bytes; and what it says that bytes are alike.
+use Rattle.core.specs.declared.result.Result.TheVariants.{Ok, Err}
 use mathlib.Core.Path.{◌≡◌, refl, sym, ◌∙◌}
 use mathlib.Core.Bool.{Bool, true, false, ◌&&◌}
 use mathlib.Core.List.{List}
@@ -11,41 +12,41 @@ use lib.Seq.{ext_get_or}
 use borrow.Author.Tests.{eq-eqb, eqb-true, ne_eqb, lt-ltb, le-ltb}
 use Rattle.place.specs.Place.{bc4_size}
 use Rattle.refusal.specs.declared.Refusal.TheVariants.{EditionReused, EditionOpposite}
-use Rattle.refusal.specs.Refusals.{first_of, answered}
+use Rattle.refusal.specs.Refusals.{Answer, first_of, answered}
 use Rattle.station.specs.declared.Received.{Received}
-use Rattle.station.specs.declared.Received.TheVariants.{Taken, Repeated, Replaced, Old, Refused as NotReceived}
+use Rattle.station.specs.declared.Received.TheVariants.{Taken, Repeated, Replaced, Old}
 use Rattle.station.specs.Editions.{halfway, edition_in, ahead, alike}
 use Rattle.station.specs.Receiving.{edition_checks, becomes}
 
-abbrev pub at_place : ℕ → ℕ → List ℕ → List ℕ → Received
-at_place entry edition bytes block = answered NotReceived (becomes entry edition) (first_of (edition_checks entry edition bytes block))
+abbrev pub at_place : ℕ → ℕ → List ℕ → List ℕ → Answer Received
+at_place entry edition bytes block = answered Err (Ok (becomes entry edition)) (first_of (edition_checks entry edition bytes block))
 
 module _ (entry edition : ℕ) (bytes block : List ℕ) where
-  pub empty_takes : entry ≡ 0 → at_place entry edition bytes block ≡ Taken
+  pub empty_takes : entry ≡ 0 → at_place entry edition bytes block ≡ Ok Taken
   unfolding first_of
   empty_takes e = rw (eq-eqb entry 0 e)
 
   module _ (full : entry ≡ 0 → ⊥) where
-    pub equal_repeats : ahead edition (edition_in entry) ≡ 0 → alike bytes block bc4_size ≡ true → at_place entry edition bytes block ≡ Repeated
+    pub equal_repeats : ahead edition (edition_in entry) ≡ 0 → alike bytes block bc4_size ≡ true → at_place entry edition bytes block ≡ Ok Repeated
     unfolding first_of
     equal_repeats e same = rw (ne_eqb entry 0 full, e, same)
 
-    pub other_reused : ahead edition (edition_in entry) ≡ 0 → alike bytes block bc4_size ≡ false → at_place entry edition bytes block ≡ NotReceived EditionReused
+    pub other_reused : ahead edition (edition_in entry) ≡ 0 → alike bytes block bc4_size ≡ false → at_place entry edition bytes block ≡ Err EditionReused
     unfolding first_of
     other_reused e same = rw (ne_eqb entry 0 full, e, same)
 
-    pub newer_replaces : 0 < ahead edition (edition_in entry) → ahead edition (edition_in entry) < halfway → at_place entry edition bytes block ≡ Replaced
+    pub newer_replaces : 0 < ahead edition (edition_in entry) → ahead edition (edition_in entry) < halfway → at_place entry edition bytes block ≡ Ok Replaced
     unfolding first_of
     newer_replaces some less =
         let no : ahead edition (edition_in entry) ≡ 0 → ⊥ = omega arith in
         let less_than : ahead edition (edition_in entry) ≡ halfway → ⊥ = omega arith in
         rw (ne_eqb entry 0 full, ne_eqb _ 0 no, ne_eqb _ halfway less_than, lt-ltb _ halfway less)
 
-    pub half_opposite : ahead edition (edition_in entry) ≡ halfway → at_place entry edition bytes block ≡ NotReceived EditionOpposite
+    pub half_opposite : ahead edition (edition_in entry) ≡ halfway → at_place entry edition bytes block ≡ Err EditionOpposite
     unfolding first_of
     half_opposite e = rw (ne_eqb entry 0 full, e)
 
-    pub older_stays : halfway < ahead edition (edition_in entry) → at_place entry edition bytes block ≡ Old
+    pub older_stays : halfway < ahead edition (edition_in entry) → at_place entry edition bytes block ≡ Ok Old
     unfolding first_of
     older_stays more =
         let no : ahead edition (edition_in entry) ≡ 0 → ⊥ = omega arith in

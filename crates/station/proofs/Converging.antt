@@ -1,13 +1,14 @@
 -- What holds after any messages of an orderly list, from a cleared record.
+use Rattle.core.specs.declared.result.Result.TheVariants.{Ok}
 use mathlib.Core.Path.{◌≡◌, refl, sym, ap, ◌∙◌}
 use mathlib.Core.List.{List}
 use mathlib.Core.Logic.{◌⊎◌, ⊎_elim}
 use Prim.Native.Nat.{ℕ, ◌<◌}
 use native.Mathlib.Omega.{arith}
 use Rattle.place.specs.Place.{along}
-use Rattle.refusal.specs.declared.Checked.TheVariants.{Passed}
+use Rattle.refusal.specs.Refusals.{refusal_in}
 use Rattle.station.specs.Editions.{Message, Held, entry_at, bytes_at, entry_of}
-use Rattle.station.specs.Receiving.{receive_answer, of_received}
+use Rattle.station.specs.Receiving.{receive_answer}
 use Rattle.station.specs.Histories.{started_anew, arrived, Among, AllAmong, For, SamePlace, Orderly, Newest, Holds, Sized}
 use Rattle.station.proofs.OneMore.{Kept, one_step, own}
 use Rattle.station.proofs.Arrivals.{kept}
@@ -47,7 +48,7 @@ module _ (width height : ℕ) (base : ℕ → ℕ → ℕ) (step : Message → �
         (so_far.each column row h l)
 
     -- the next one is not refused
-    pub never_refused : (m : Message) → Among m sent → of_received (receive_answer (at ms) width height m) ≡ Passed
+    pub never_refused : (m : Message) → Among m sent → refusal_in (receive_answer (at ms) width height m) ≡ Ok tt
     never_refused m was_sent = (own width height base step sent orderly start so_far m was_sent).0
 
   -- Two lists of the same messages, whatever their order and however often each is there, end in the same bytes and the same record.

@@ -8,12 +8,10 @@ use lib.Dec.{eqb}
 use lib.ListN.{length, replicate}
 use borrow.Author.Tests.{eqb-false}
 use Rattle.place.specs.Place.{along}
-use Rattle.refusal.specs.declared.Checked.{Checked}
-use Rattle.refusal.specs.declared.Checked.TheVariants.{Passed, Refused}
-use Rattle.refusal.specs.Refusals.{first_of, answered}
+use Rattle.core.specs.declared.result.Result.TheVariants.{Ok, Err}
+use Rattle.refusal.specs.Refusals.{Answer, Checked, first_of, answered}
 use Rattle.refusal.proofs.Firsts.{first_append}
 use Rattle.station.specs.declared.Received.{Received}
-use Rattle.station.specs.declared.Received.TheVariants.{Refused as NotReceived}
 use Rattle.station.specs.Editions.{Message, Held, entry_at, bytes_at, is_empty}
 use Rattle.station.specs.Receiving.{edition_checks, fit_checks, held_checks, becomes, receive_answer, changes}
 use Rattle.station.specs.Histories.{received, started_anew, arrived, For, Sized}
@@ -43,20 +41,20 @@ module _ (width height : ℕ) where
     shape = first_of (fit_checks h width height m)
 
     -- what is answered, by the bytes at the place and by whether message, tile and record go together
-    abbrev said : List ℕ → Checked → Received
-    said bytes c = answered NotReceived (becomes entry m.edition) (answered Refused (first_of (edition_checks entry m.edition bytes m.block)) c)
+    abbrev said : List ℕ → Checked → Answer Received
+    said bytes c = answered Err (Ok (becomes entry m.edition)) (answered Err (first_of (edition_checks entry m.edition bytes m.block)) c)
 
     one_said : (c : Checked) → shape ≡ c → (t : Bool) → is_empty entry ≡ t → said (bytes_at h width m.column m.row) c ≡ said (bytes_at g width m.column m.row) c
-    one_said (Refused q) p t e = refl
-    one_said Passed p true e =
-        ap (answered NotReceived (becomes entry m.edition)) (empty_alike entry m.edition (bytes_at h width m.column m.row) (bytes_at g width m.column m.row) m.block e)
-    one_said Passed p false e =
+    one_said (Err q) p t e = refl
+    one_said (Ok tt) p true e =
+        ap (answered Err (Ok (becomes entry m.edition))) (empty_alike entry m.edition (bytes_at h width m.column m.row) (bytes_at g width m.column m.row) m.block e)
+    one_said (Ok tt) p false e =
         let r = room (length h.tile) (length h.editions) (length m.block) width height m.column m.row p in
-        ap (λ (l : List ℕ). said l Passed) (agree.bytes m.column m.row r.across r.down (eqb-false entry 0 e))
+        ap (λ (l : List ℕ). said l (Ok tt)) (agree.bytes m.column m.row r.across r.down (eqb-false entry 0 e))
 
     in_turn : (x : Held) → receive_answer x width height m
-        ≡ answered NotReceived (becomes (entry_at x width m.column m.row) m.edition) (answered Refused (first_of (held_checks x width m)) (first_of (fit_checks x width height m)))
-    in_turn x = ap (answered NotReceived (becomes (entry_at x width m.column m.row) m.edition)) (first_append (fit_checks x width height m) (held_checks x width m))
+        ≡ answered Err (Ok (becomes (entry_at x width m.column m.row) m.edition)) (answered Err (first_of (held_checks x width m)) (first_of (fit_checks x width height m)))
+    in_turn x = ap (answered Err (Ok (becomes (entry_at x width m.column m.row) m.edition))) (first_append (fit_checks x width height m) (held_checks x width m))
 
     pub same_answer : receive_answer h width height m ≡ receive_answer g width height m
     same_answer =

@@ -11,13 +11,11 @@ use lib.Seq.{get_or-set_same, get_or-set_other}
 use borrow.Author.Tests.{eq-eqb, lt-leb}
 use Rattle.place.specs.Place.{along, bc4_size, encoded_length, block_at}
 use Rattle.place.proofs.Places.{block_apart}
-use Rattle.refusal.specs.declared.Checked.{Checked}
-use Rattle.refusal.specs.declared.Checked.TheVariants.{Passed, Refused}
-use Rattle.refusal.specs.Refusals.{first_of, answered, length_check, place_check, size_checks, bytes_checks}
+use Rattle.core.specs.declared.result.Result.TheVariants.{Ok, Err}
+use Rattle.refusal.specs.Refusals.{Answer, Checked, first_of, answered, length_check, place_check, size_checks, bytes_checks}
 use Rattle.refusal.proofs.Firsts.{both_passed, passed_before, clear_passed}
 use Rattle.refusal.proofs.Sizes.{good_passes}
 use Rattle.station.specs.declared.Received.{Received}
-use Rattle.station.specs.declared.Received.TheVariants.{Refused as NotReceived}
 use Rattle.station.specs.Editions.{Message, Held, entry_size, entry_at, bytes_at, entry_of}
 use Rattle.station.specs.Receiving.{fit_checks, held_checks, receive_checks, becomes, receive_answer, changes, bytes_put, tile_after, editions_after}
 use Rattle.station.specs.Histories.{received, For, Sized}
@@ -26,12 +24,12 @@ use Rattle.station.proofs.Cases.{at_place}
 use Rattle.station.proofs.Standing.{put_length, put_here, put_before, put_after}
 
 -- ---- a message that changes something was not refused, so that its place is there
-changed_passed : (c : Checked) (entry edition : ℕ) → changes (answered NotReceived (becomes entry edition) c) ≡ true → c ≡ Passed
-changed_passed Passed entry edition e = refl
-changed_passed (Refused q) entry edition e = absurd (let z : ◌≡◌ {A = ℕ} 0 1 = cc in omega arith)
+changed_passed : (c : Checked) (entry edition : ℕ) → changes (answered Err (Ok (becomes entry edition)) c) ≡ true → c ≡ Ok tt
+changed_passed (Ok tt) entry edition e = refl
+changed_passed (Err q) entry edition e = absurd (let z : ◌≡◌ {A = ℕ} 0 1 = cc in omega arith)
 
 module _ (held : Held) (width height : ℕ) (m : Message) where
-  abbrev answer : Received
+  abbrev answer : Answer Received
   answer = receive_answer held width height m
 
   pub changed_room : changes answer ≡ true → Room (length held.tile) (length held.editions) (length m.block) width height m.column m.row
@@ -95,7 +93,7 @@ module _ (held : Held) (width height : ℕ) (m : Message) where
 
 -- ---- a message that fits a tile and a record of one size is answered by its place
 module _ (held : Held) (width height : ℕ) (m : Message) (sized : Sized width height held) (across : m.column < along width) (down : m.row < along height) (eight : length m.block ≡ bc4_size) where
-  shape_passed : first_of (fit_checks held width height m) ≡ Passed
+  shape_passed : first_of (fit_checks held width height m) ≡ Ok tt
   shape_passed =
       let bytes = length_check (length held.tile) (encoded_length bc4_size width height) ∷ [] in
       let rest = length_check (length held.editions) (encoded_length entry_size width height) ∷ length_check (length m.block) bc4_size ∷ place_check width height m.column m.row ∷ [] in

@@ -1,4 +1,5 @@
 -- One message more, of an orderly list: if each place holds the newest of those before it, it is not refused, and each holds the newest of those and it.
+use Rattle.core.specs.declared.result.Result.TheVariants.{Ok}
 use mathlib.Core.Path.{◌≡◌, refl, sym, ap, ◌∙◌}
 use mathlib.Core.Bool.{Bool, true, false}
 use mathlib.Core.List.{List}
@@ -9,11 +10,11 @@ use native.Mathlib.Omega.{arith}
 use lib.Dec.{eqb}
 use borrow.Author.Tests.{eqb-true, eqb-false}
 use Rattle.place.specs.Place.{along, bc4_size}
-use Rattle.refusal.specs.declared.Checked.TheVariants.{Passed}
+use Rattle.refusal.specs.Refusals.{Answer, refusal_in}
 use Rattle.station.specs.declared.Received.{Received}
 use Rattle.station.specs.declared.Received.TheVariants.{Taken, Repeated, Replaced, Old}
 use Rattle.station.specs.Editions.{Message, Held, entry_at, bytes_at, wrap, edition_in, entry_of, ahead}
-use Rattle.station.specs.Receiving.{receive_answer, of_received, changes}
+use Rattle.station.specs.Receiving.{receive_answer, changes}
 use Rattle.station.specs.Histories.{received, Among, For, SamePlace, Orderly, Newest, Holds, Sized}
 use Rattle.station.proofs.Steps.{newer, same, older, entry_read}
 use Rattle.station.proofs.Cases.{at_place, empty_takes, equal_repeats, newer_replaces, older_stays, alike_same}
@@ -69,7 +70,7 @@ module _ (width height : ℕ) (base : ℕ → ℕ → ℕ) (step : Message → �
     abbrev AndOne : Message → Type 0
     AndOne n = Those n ⊎ (n ≡ m)
 
-    abbrev answer : Received
+    abbrev answer : Answer Received
     answer = receive_answer held width height m
 
     abbrev next : Held
@@ -106,12 +107,12 @@ module _ (width height : ℕ) (base : ℕ → ℕ → ℕ) (step : Message → �
         })
 
     abbrev Own : Type 0
-    Own = (of_received answer ≡ Passed) × Filled AndOne next m.column m.row
+    Own = (refusal_in answer ≡ Ok tt) × Filled AndOne next m.column m.row
 
     empty_place : Untouched Those held m.column m.row → Own
     empty_place u =
-        let taken : answer ≡ Taken = by_place ∙ empty_takes entry m.edition bytes m.block u.empty in
-        (ap of_received taken, now_there (ap changes taken) (λ n t p. absurd (u.none n t p)))
+        let taken : answer ≡ Ok Taken = by_place ∙ empty_takes entry m.edition bytes m.block u.empty in
+        (ap refusal_in taken, now_there (ap changes taken) (λ n t p. absurd (u.none n t p)))
 
     full_place : Filled Those held m.column m.row → Own
     full_place f =
@@ -130,19 +131,19 @@ module _ (width height : ℕ) (base : ℕ → ℕ → ℕ) (step : Message → �
         dite (dec_lt (step f.m) (step m))
         (λ l.
         let apart = newer b (step f.m) (step m) l short in
-        let replaced : answer ≡ Replaced = by_place ∙ newer_replaces entry m.edition bytes m.block full (omega arith) (omega arith) in
-        (ap of_received replaced, now_there (ap changes replaced) (λ n t p. let before = f.newest.none_newer n t (p.0 ∙ sym f.there.0, p.1 ∙ sym f.there.1) in omega arith)))
+        let replaced : answer ≡ Ok Replaced = by_place ∙ newer_replaces entry m.edition bytes m.block full (omega arith) (omega arith) in
+        (ap refusal_in replaced, now_there (ap changes replaced) (λ n t p. let before = f.newest.none_newer n t (p.0 ∙ sym f.there.0, p.1 ∙ sym f.there.1) in omega arith)))
         (λ l. dite (dec_lt (step m) (step f.m))
         (λ g.
         let behind = older b (step f.m) (step m) g held_short in
-        let stays : answer ≡ Old = by_place ∙ older_stays entry m.edition bytes m.block full (omega arith) in
-        (ap of_received stays, still_there f (ap changes stays) (omega arith)))
+        let stays : answer ≡ Ok Old = by_place ∙ older_stays entry m.edition bytes m.block full (omega arith) in
+        (ap refusal_in stays, still_there f (ap changes stays) (omega arith)))
         (λ g.
         let level : step f.m ≡ step m = omega arith in
         let none : ahead m.edition (edition_in entry) ≡ 0 = steps ∙ ap (λ (h : ℕ). ahead ((b + step m) % wrap) ((b + h) % wrap)) level ∙ same b (step m) in
         let content : bytes ≡ m.block = bytes_are ∙ (one_step f.m m held_sent was_sent f.there level).1 in
-        let repeated : answer ≡ Repeated = by_place ∙ equal_repeats entry m.edition bytes m.block full none (rw content (alike_same m.block bc4_size)) in
-        (ap of_received repeated, still_there f (ap changes repeated) (omega arith))))
+        let repeated : answer ≡ Ok Repeated = by_place ∙ equal_repeats entry m.edition bytes m.block full none (rw content (alike_same m.block bc4_size)) in
+        (ap refusal_in repeated, still_there f (ap changes repeated) (omega arith))))
 
     pub own : Own
     own = ⊎_elim empty_place full_place (k.each m.column m.row (orderly.across m was_sent) (orderly.down m was_sent))

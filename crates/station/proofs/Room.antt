@@ -6,7 +6,7 @@ use Prim.Native.Nat.{ℕ, ◌+◌, ◌*◌, ◌<◌, ◌≤◌}
 use native.Mathlib.Omega.{arith}
 use Rattle.place.specs.Place.{longest_side, bad_size, along, bc4_size, encoded_length, block_at}
 use Rattle.place.proofs.Places.{bytes_small, row_room, block_there, block_within}
-use Rattle.refusal.specs.declared.Checked.TheVariants.{Passed}
+use Rattle.core.specs.declared.result.Result.TheVariants.{Ok}
 use Rattle.refusal.specs.Refusals.{first_of, length_check, place_check, bytes_checks}
 use Rattle.refusal.proofs.Firsts.{first_clear, both_passed, same_of}
 use Rattle.refusal.proofs.Tiles.{bytes_passed}
@@ -25,7 +25,7 @@ pub record Room (long entries count width height column row : ℕ) : Type 0 wher
   pub entry : block_at entry_size width column row < entries
   pub small : long ≤ longest_side * longest_side
 
-pub room : (long entries count width height column row : ℕ) → first_of (shape_checks long entries count width height column row) ≡ Passed → Room long entries count width height column row
+pub room : (long entries count width height column row : ℕ) → first_of (shape_checks long entries count width height column row) ≡ Ok tt → Room long entries count width height column row
 room long entries count width height column row passed =
     let rest = length_check entries (encoded_length entry_size width height) ∷ length_check count bc4_size ∷ place_check width height column row ∷ [] in
     let both = both_passed (bytes_checks long width height) rest passed in

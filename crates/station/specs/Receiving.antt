@@ -2,11 +2,10 @@
 use Rattle.std.specs.Prelude.{Bool, true, false, not, cond, ◌&&◌, List, [], ◌∷◌, ◌++◌, ℕ, ◌+◌, ltb, eqb, length, take, drop, set, replicate}
 use Rattle.place.specs.Place.{bc4_size, encoded_length, block_at}
 use Rattle.refusal.specs.declared.Refusal.TheVariants.{EditionReused, EditionOpposite}
-use Rattle.refusal.specs.declared.Checked.{Checked}
-use Rattle.refusal.specs.declared.Checked.TheVariants.{Passed, Refused}
-use Rattle.refusal.specs.Refusals.{Check, when, first_of, answered, length_check, place_check, bytes_checks}
+use Rattle.core.specs.declared.result.Result.TheVariants.{Ok, Err}
+use Rattle.refusal.specs.Refusals.{Answer, Check, when, first_of, answered, length_check, place_check, bytes_checks}
 use Rattle.station.specs.declared.Received.{Received}
-use Rattle.station.specs.declared.Received.TheVariants.{Taken, Repeated, Replaced, Old, Refused as NotReceived}
+use Rattle.station.specs.declared.Received.TheVariants.{Taken, Repeated, Replaced, Old}
 use Rattle.station.specs.Editions.{Message, Held, entry_size, entry_at, bytes_at, halfway, is_empty, edition_in, entry_of, ahead, alike}
 
 -- ---- checks: 1, 9, 10, 3 of the tile, of the record and of the message, 6, 16, 17. `long`, `entries` and `count` are these three lengths.
@@ -34,32 +33,25 @@ abbrev pub becomes : ℕ → ℕ → Received
 becomes entry edition =
     cond (is_empty entry) Taken (cond (eqb (ahead edition (edition_in entry)) 0) Repeated (cond (ltb (ahead edition (edition_in entry)) halfway) Replaced Old))
 
-abbrev pub receive_answer : Held → ℕ → ℕ → Message → Received
+abbrev pub receive_answer : Held → ℕ → ℕ → Message → Answer Received
 receive_answer held width height m =
-    answered NotReceived (becomes (entry_at held width m.column m.row) m.edition) (first_of (receive_checks held width height m))
-
-abbrev pub of_received : Received → Checked
-of_received Taken = Passed
-of_received Repeated = Passed
-of_received Replaced = Passed
-of_received Old = Passed
-of_received (NotReceived q) = Refused q
+    answered Err (Ok (becomes (entry_at held width m.column m.row) m.edition)) (first_of (receive_checks held width height m))
 
 -- ---- what is held after it: a message that is taken, or that replaces, puts its bytes and its edition at its place; any other changes nothing
-abbrev pub changes : Received → Bool
-changes Taken = true
-changes Repeated = false
-changes Replaced = true
-changes Old = false
-changes (NotReceived q) = false
+abbrev pub changes : Answer Received → Bool
+changes (Ok Taken) = true
+changes (Ok Repeated) = false
+changes (Ok Replaced) = true
+changes (Ok Old) = false
+changes (Err q) = false
 
 abbrev pub bytes_put : List ℕ → ℕ → List ℕ → List ℕ
 bytes_put tile at block = take at tile ++ (block ++ drop (at + bc4_size) tile)
 
-abbrev pub tile_after : Received → List ℕ → ℕ → Message → List ℕ
+abbrev pub tile_after : Answer Received → List ℕ → ℕ → Message → List ℕ
 tile_after answer tile width m = cond (changes answer) (bytes_put tile (block_at bc4_size width m.column m.row) m.block) tile
 
-abbrev pub editions_after : Received → List ℕ → ℕ → Message → List ℕ
+abbrev pub editions_after : Answer Received → List ℕ → ℕ → Message → List ℕ
 editions_after answer editions width m = cond (changes answer) (set editions (block_at entry_size width m.column m.row) (entry_of m.edition)) editions
 
 -- ---- clearing: every place is empty, and the tile stays

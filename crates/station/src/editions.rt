@@ -2,9 +2,8 @@
 ghost use Rattle.std.specs.Prelude.{◌≡◌, ◌<◌, length};
 ghost use Rattle.place.specs.Place.{bc4_size};
 ghost use Rattle.refusal.specs.Refusals.{first_of, answered};
-ghost use Rattle.station.specs.declared.Received.TheVariants.{Refused as NotReceived};
 ghost use Rattle.station.specs.Editions.{edition_in, entry_of, ahead as ahead_of, alike as alike_to};
-ghost use Rattle.station.specs.Receiving.{edition_checks, becomes, changes as changes_by};
+ghost use Rattle.station.specs.Receiving.{edition_checks, becomes};
 
 use crate::Received;
 use refusal::Refusal;
@@ -43,38 +42,30 @@ fn alike(held: &[u8], block: &[u8]) -> bool
 }
 
 // Of a message whose place has this entry and these bytes.
-pub fn answer(entry: u32, edition: u16, held: &[u8], block: &[u8]) -> Received
+pub fn received(
+    entry: u32,
+    edition: u16,
+    held: &[u8],
+    block: &[u8],
+) -> Result<Received, Refusal>
     requires { (length held.now ≡ bc4_size) × (length block.now ≡ bc4_size) }
-    ensures { result ≡ answered NotReceived (becomes entry edition) (first_of (edition_checks entry edition held.now block.now)) }
+    ensures { result ≡ answered Err (Ok (becomes entry edition)) (first_of (edition_checks entry edition held.now block.now)) }
 {
     if entry == 0 {
-        return Received::Taken;
+        return Ok(Received::Taken);
     }
     let steps = ahead(edition, entry);
     if steps == 0 {
         if alike(held, block) {
-            return Received::Repeated;
+            return Ok(Received::Repeated);
         }
-        return Received::Refused(Refusal::EditionReused);
+        return Err(Refusal::EditionReused);
     }
     if steps < HALFWAY {
-        return Received::Replaced;
+        return Ok(Received::Replaced);
     }
     if steps == HALFWAY {
-        return Received::Refused(Refusal::EditionOpposite);
+        return Err(Refusal::EditionOpposite);
     }
-    Received::Old
-}
-
-// Whether what is held changes by a message with this answer.
-pub fn changes(answer: Received) -> bool
-    ensures { result ≡ changes_by answer }
-{
-    match answer {
-        Received::Taken => true,
-        Received::Repeated => false,
-        Received::Replaced => true,
-        Received::Old => false,
-        Received::Refused(_) => false,
-    }
+    Ok(Received::Old)
 }

@@ -5,12 +5,12 @@
 ghost use Rattle.std.specs.Prelude.{◌≡◌, ◌+◌, ◌*◌, ◌<◌, ◌≤◌, length, set};
 ghost use Rattle.place.specs.Place.{longest_side, bc4_size};
 ghost use Rattle.station.specs.Editions.{message, holding, entry_of};
-ghost use Rattle.station.specs.Receiving.{receive_answer, bytes_put, tile_after, editions_after, cleared};
+ghost use Rattle.station.specs.Receiving.{receive_answer, changes, bytes_put, tile_after, editions_after, cleared};
 
 mod editions;
 mod shape;
 
-use refusal::{Checked, Refusal};
+use refusal::Refusal;
 
 // What became of a message.
 #[derive(Clone, Copy)]
@@ -23,8 +23,18 @@ pub enum Received {
     Replaced,
     // Its place holds a newer one. Nothing changed.
     Old,
-    // Nothing changed.
-    Refused(Refusal),
+}
+
+impl Received {
+    // Whether what is held changes by it.
+    fn changes(self) -> bool
+        ensures { result ≡ changes (Ok self) }
+    {
+        match self {
+            Received::Taken | Received::Replaced => true,
+            Received::Repeated | Received::Old => false,
+        }
+    }
 }
 
 pub fn receive(
@@ -36,12 +46,12 @@ pub fn receive(
     row: usize,
     edition: u16,
     block: &[u8],
-) -> Received
+) -> Result<Received, Refusal>
     ensures answer { result ≡ receive_answer (holding tile.old editions.old) width height (message column row edition block.now) }
     ensures tile { tile.new ≡ tile_after result tile.old width (message column row edition block.now) }
     ensures editions { editions.new ≡ editions_after result editions.old width (message column row edition block.now) }
 {
-    let checked = shape::message(
+    shape::message(
         tile.len(),
         editions.len(),
         block.len(),
@@ -49,24 +59,19 @@ pub fn receive(
         height,
         column,
         row,
-    );
-    match checked {
-        Checked::Refused(q) => Received::Refused(q),
-        Checked::Passed => {
-            let at = place::block_at(place::BC4_SIZE, width, column, row);
-            let entry = place::block_at(editions::ENTRY_SIZE, width, column, row);
-            let answer = editions::answer(
-                editions[entry],
-                edition,
-                &tile[at..at + place::BC4_SIZE],
-                block,
-            );
-            if editions::changes(answer) {
-                put(tile, editions, at, entry, edition, block);
-            }
-            answer
-        }
+    )?;
+    let at = place::block_at(place::BC4_SIZE, width, column, row);
+    let entry = place::block_at(editions::ENTRY_SIZE, width, column, row);
+    let received = editions::received(
+        editions[entry],
+        edition,
+        &tile[at..at + place::BC4_SIZE],
+        block,
+    )?;
+    if received.changes() {
+        put(tile, editions, at, entry, edition, block);
     }
+    Ok(received)
 }
 
 // A message's bytes and its edition, where its place has them.

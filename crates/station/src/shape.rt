@@ -4,7 +4,7 @@ ghost use Rattle.refusal.specs.Refusals.{first_of};
 ghost use Rattle.station.specs.Receiving.{shape_checks};
 
 use crate::editions;
-use refusal::{Checked, Refusal};
+use refusal::Refusal;
 
 // `long`, `entries` and `count` are the lengths of the tile, of the record and of the message's bytes.
 pub fn message(
@@ -15,23 +15,18 @@ pub fn message(
     height: usize,
     column: usize,
     row: usize,
-) -> Checked
+) -> Result<(), Refusal>
     ensures { result ≡ first_of (shape_checks long entries count width height column row) }
 {
-    let checked = refusal::tile_bytes(long, width, height);
-    match checked {
-        Checked::Refused(q) => Checked::Refused(q),
-        Checked::Passed => {
-            if entries != place::encoded_length(editions::ENTRY_SIZE, width, height) {
-                return Checked::Refused(Refusal::EncodedLength);
-            }
-            if count != place::BC4_SIZE {
-                return Checked::Refused(Refusal::EncodedLength);
-            }
-            if (column >= width / 4) | (row >= height / 4) {
-                return Checked::Refused(Refusal::NoSuchBlock);
-            }
-            Checked::Passed
-        }
+    refusal::tile_bytes(long, width, height)?;
+    if entries != place::encoded_length(editions::ENTRY_SIZE, width, height) {
+        return Err(Refusal::EncodedLength);
     }
+    if count != place::BC4_SIZE {
+        return Err(Refusal::EncodedLength);
+    }
+    if (column >= width / 4) | (row >= height / 4) {
+        return Err(Refusal::NoSuchBlock);
+    }
+    Ok(())
 }

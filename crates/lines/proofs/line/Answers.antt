@@ -4,19 +4,18 @@ use mathlib.Core.List.{List}
 use Prim.Native.Nat.{ℕ, ◌<◌}
 use lib.Dec.{lit<}
 use Rattle.refusal.specs.declared.Refusal.{Refusal}
-use Rattle.refusal.specs.Refusals.{number_of, encode_checks, and_word}
+use Rattle.refusal.specs.Refusals.{refusal_in, number_of, encode_checks, and_word}
 use Rattle.refusal.proofs.Firsts.{refusal_of, first_among}
-use Rattle.bc4.specs.declared.Encoded.TheVariants.{Block, Refused}
-use Rattle.bc4.specs.Calls.{of_encoded}
+use Rattle.core.specs.declared.result.Result.TheVariants.{Ok, Err}
 use Rattle.lines.specs.Input.{record_word, samples_of}
 use Rattle.lines.specs.Answers.{answer_of, line_of}
 use Rattle.lines.proofs.line.Goals as goal
 
 -- A record is refused by one of the checks of the block call by word: 2, 7 and 8.
-one-digit : (bytes : List ℕ) (q : Refusal) → answer_of bytes ≡ Refused q → number_of q < 10
+one-digit : (bytes : List ℕ) (q : Refusal) → answer_of bytes ≡ Err q → number_of q < 10
 one-digit bytes q e =
     first_among (λ p. number_of p < 10) (and_word (encode_checks (samples_of bytes)) (record_word bytes).malformed) (lit< tt, (lit< tt, (lit< tt, tt)))
-    (sym (refusal_of of_encoded Refused (Block _) refl (λ p. refl) _) ∙ ap of_encoded e)
+    (sym (refusal_of _ _) ∙ ap refusal_in e)
 
 pub refused-requires : goal.refused-requires
 refused-requires c = rw c.number.ensures (one-digit c.args.bytes.now _ (sym c.answer_to-answer.ensures ∙ c.in-Refused.is))

@@ -4,7 +4,7 @@ use native.Mathlib.Omega.{arith}
 use borrow.Author.Tests.{eq-eqb, ne_eqb, lt-ltb, le-ltb}
 use Rattle.refusal.specs.Refusals.{first_of}
 use Rattle.station.specs.Editions.{halfway}
-use Rattle.station.proofs.editions.answer.Goals as goal
+use Rattle.station.proofs.editions.received.Goals as goal
 
 pub returns-then-entry-eq0 : goal.returns-then-entry-eq0
 unfolding first_of
