@@ -4,6 +4,10 @@
 ghost use Rattle.std.specs.Prelude.{◌≡◌, ◌+◌, ◌*◌, ◌<◌, ◌≤◌, length};
 ghost use Rattle.place.specs.Place.{longest_side, bad_side, bad_size, along, encoded_length, block_at, block_of};
 
+mod size;
+
+pub use size::Size;
+
 pub const LONGEST_SIDE: usize = 1024;
 
 // The bytes of a BC4 block.

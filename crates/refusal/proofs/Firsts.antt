@@ -1,5 +1,6 @@
 -- Laws of the first check that applies.
-use mathlib.Core.Path.{◌≡◌, refl, sym, subst, ◌∙◌}
+use mathlib.Core.Path.{◌≡◌, refl, sym, ap, subst, ◌∙◌}
+use Rattle.std.specs.Prelude.{IsErrAnd, ⊤}
 use mathlib.Core.Bool.{Bool, true, false, not, cond}
 use mathlib.Core.List.{List, [], ◌∷◌, ◌++◌}
 use Prim.Native.Nat.{ℕ}
@@ -8,13 +9,13 @@ use borrow.Author.Tests.{not-false}
 use Rattle.refusal.specs.declared.Refusal.{Refusal}
 use Rattle.refusal.specs.declared.Refusal.TheVariants.{WordMalformed}
 use Rattle.core.specs.declared.result.Result.TheVariants.{Ok, Err}
-use Rattle.refusal.specs.Refusals.{Checked, refusal_in, Check, when, first_of, answered, and_word, or_malformed}
+use Rattle.refusal.specs.Refusals.{Answer, Checked, refusal_in, Check, when, first_of, answered, and_word, or_malformed}
 
 abbrev refuses : Checked → Type 0
 refuses (Ok tt) = ⊥
 refuses (Err q) = Unit {0}
 
-pub apart : {q : Refusal} → Err q ≡ Ok tt → ⊥
+pub apart : {q : Refusal} → ◌≡◌ {A = Checked} (Err q) (Ok tt) → ⊥
 apart e = subst refuses e tt
 
 -- What a call answers, by cases: refused, or passed.
@@ -22,6 +23,14 @@ pub answered_cases : {A : Type 0} (P : A → Type 0) {refused : Refusal → A} {
     → P (answered refused value c)
 answered_cases P (Ok tt) r p = p refl
 answered_cases P (Err q) r p = r q refl
+
+-- what `?` hands on
+pub handed_on : {A : Type 0} {q : Refusal} (r : Answer A) → IsErrAnd r (λ p. p ≡ q) → r ≡ Err q
+handed_on (Ok value) e = absurd e
+handed_on (Err p) e = ap Err e
+
+pub passes : (done : ⊤) {c : Checked} → Ok done ≡ c → Ok tt ≡ c
+passes tt e = e
 
 -- An answer refuses as its checks do.
 pub refusal_of : {A : Type 0} (value : A) (c : Checked) → refusal_in (answered Err (Ok value) c) ≡ c
@@ -74,6 +83,13 @@ first_append (c ∷ cs) ds = go c.applies (first_append cs ds)
         → cond t (Err c.refusal) (first_of (cs ++ ds)) ≡ answered Err (first_of ds) (cond t (Err c.refusal) (first_of cs))
     go true rest = refl
     go false rest = rest
+
+-- The same for a call that asks for the checks of `cs` by `?`, and goes on where none of them refuses.
+pub refused_first : {A : Type 0} (cs ds : List Check) {q : Refusal} (r : Answer A) → IsErrAnd r (λ p. p ≡ q) → Err q ≡ first_of cs → refusal_in r ≡ first_of (cs ++ ds)
+refused_first cs ds r e first = rw (handed_on r e, first_append cs ds, ← first) refl
+
+pub passed_first : (cs ds : List Check) → ◌≡◌ {A = Checked} (Ok tt) (first_of cs) → first_of ds ≡ first_of (cs ++ ds)
+passed_first cs ds first = rw (first_append cs ds, ← first) refl
 
 module _ (cs ds : List Check) where
   pub refused_before : {q : Refusal} → first_of cs ≡ Err q → first_of (cs ++ ds) ≡ Err q

@@ -1,6 +1,10 @@
 -- The first NaN of a list.
-use mathlib.Core.Path.{◌≡◌, refl, sym, ◌∙◌}
-use mathlib.Core.Bool.{Bool, true, false, ◌||◌}
+use mathlib.Core.Path.{◌≡◌, refl, sym, ap, ◌∙◌}
+use mathlib.Core.Bool.{Bool, true, false, cond, ◌||◌}
+use Rattle.std.specs.Prelude.{if◌then◌else◌}
+use Rattle.core.specs.declared.option.Option.TheVariants.{Some, None}
+use Rattle.core.specs.declared.result.Result.TheVariants.{Ok, Err}
+use Rattle.refusal.specs.declared.Refusal.{Refusal}
 use mathlib.Core.List.{List}
 use Prim.Native.Nat.{ℕ, suc, ◌+◌, ◌≤◌, ◌<◌}
 use native.Mathlib.Numerals.{add-one}
@@ -11,7 +15,7 @@ use lib.Seq.{drop-cons}
 use lib.Ieee.{Float, nan, ne}
 use borrow.Author.Tests.{lt-ltb, le-ltb}
 use Rattle.floats.proofs.Order.{ne_self}
-use Rattle.refusal.specs.Refusals.{first_nan}
+use Rattle.refusal.specs.Refusals.{Checked, first_nan}
 
 -- ---- one step of the search: i samples are passed, and none is NaN
 abbrev pub Passed-to : List Float → ℕ → Type 0
@@ -32,6 +36,16 @@ nan_later s i h e t =
 pub nan_none : (s : List Float) (i : ℕ) → length s ≤ i → Passed-to s i → i ≡ first_nan s
 unfolding first_nan
 nan_none s i h e = let z : first_nan (drop i s) ≡ 0 = rw (drop_of_length-le s h) refl in omega arith
+
+-- The first one's place, where there is one, makes the refusal of the check.
+module _ {X : Type 0} (refusal : X → Refusal) (x : X) where
+  pub some_told : (t : Bool) {y : X} → Some y ≡ (if t then Some x else None) → ◌≡◌ {A = Checked} (Err (refusal y)) (cond {A = Checked} t (Err (refusal x)) (Ok tt))
+  some_told true e = let same : _ ≡ _ = cc in ap (λ (z : X). Err (refusal z)) same
+  some_told false e = absurd (let z : ◌≡◌ {A = ℕ} 0 1 = cc in omega arith)
+
+  pub none_told : (t : Bool) → None ≡ (if t then Some x else None) → ◌≡◌ {A = Checked} (Ok tt) (cond {A = Checked} t (Err (refusal x)) (Ok tt))
+  none_told true e = absurd (let z : ◌≡◌ {A = ℕ} 0 1 = cc in omega arith)
+  none_told false e = refl
 
 -- ---- the same without a way out: a flag says whether one was found among the first i
 abbrev pub Looked : List Float → Bool → ℕ → Type 0

@@ -1,8 +1,8 @@
 // Document 01, "Calls and numbers", and document 02: every refusal, its number, what it brings with it, and the checks of each call in their order.
 #![tactic(auto)]
 
-ghost use Rattle.std.specs.Prelude.{◌≡◌, length};
-ghost use Rattle.refusal.specs.Refusals.{first_of, or_malformed, encode_checks, decode_checks, error_checks, resend_checks, tile_checks, view_checks};
+ghost use Rattle.std.specs.Prelude.{◌≡◌, length, IfOk};
+ghost use Rattle.refusal.specs.Refusals.{refusal_in, first_of, or_malformed, encode_checks, decode_checks, error_checks, resend_checks, tile_checks, view_checks};
 
 mod nan;
 mod shape;
@@ -11,6 +11,7 @@ mod told;
 
 pub use nan::{no_nan_in, no_tile_nan_in};
 use options::Options;
+use place::Size;
 pub use shape::{size, tile_bytes, view_of};
 pub use told::{detail, number};
 
@@ -146,18 +147,19 @@ pub fn resend(samples: &[f32], held: &[u8], o: Options) -> Result<(), Refusal>
 }
 
 // `room` is the length of the output.
-pub fn tile(samples: &[f32], width: usize, height: usize, room: usize) -> Result<(), Refusal>
-    ensures { result ≡ first_of (tile_checks samples.now width height room) }
+pub fn tile(samples: &[f32], width: usize, height: usize, room: usize) -> Result<Size, Refusal>
+    ensures refusal { refusal_in result ≡ first_of (tile_checks samples.now width height room) }
+    ensures size { IfOk result (λ size. (size.width ≡ width) × (size.height ≡ height)) }
 {
-    size(width, height)?;
-    let area = width * height;
-    if samples.len() != area {
+    let size = size(width, height)?;
+    if samples.len() != size.area() {
         return Err(Refusal::SampleCount);
     }
-    if room < place::encoded_length(place::BC4_SIZE, width, height) {
+    if room < size.encoded_length(place::BC4_SIZE) {
         return Err(Refusal::OutputLength);
     }
-    nan::no_tile_nan(samples, width)
+    nan::no_tile_nan(samples, size)?;
+    Ok(size)
 }
 
 pub fn view(

@@ -1,9 +1,10 @@
 // The size of a tile: one list of checks, and the function that runs it for every call that has a size.
-ghost use Rattle.std.specs.Prelude.{◌≡◌, true, ◌≤◌};
+ghost use Rattle.std.specs.Prelude.{◌≡◌, true, ◌≤◌, IfOk};
 ghost use Rattle.place.specs.Place.{bad_size, bc5_size};
-ghost use Rattle.refusal.specs.Refusals.{first_of, size_checks, bytes_checks_of, bytes_checks, view_checks_of};
+ghost use Rattle.refusal.specs.Refusals.{refusal_in, first_of, size_checks, bytes_checks_of, bytes_checks, view_checks_of};
 
 use crate::{Refusal, Side};
+use place::Size;
 
 // What is wrong with a size that is: by number, and of one number the width before the height.
 fn wrong_size(width: usize, height: usize) -> Refusal
@@ -29,47 +30,50 @@ fn wrong_size(width: usize, height: usize) -> Refusal
 }
 
 // A good size passes by a single test.
-pub fn size(width: usize, height: usize) -> Result<(), Refusal>
-    ensures { result ≡ first_of (size_checks width height) }
+pub fn size(width: usize, height: usize) -> Result<Size, Refusal>
+    ensures refusal { refusal_in result ≡ first_of (size_checks width height) }
+    ensures size { IfOk result (λ size. (size.width ≡ width) × (size.height ≡ height)) }
 {
-    if place::bad_size(width, height) {
-        return Err(wrong_size(width, height));
+    match Size::new(width, height) {
+        Some(size) => Ok(size),
+        None => Err(wrong_size(width, height)),
     }
-    Ok(())
 }
 
-// The bytes of a tile: its size, and then their count. `size` is the bytes of a block, here and below.
-fn bytes_of(size: usize, long: usize, width: usize, height: usize) -> Result<(), Refusal>
-    requires { size ≤ bc5_size }
-    ensures { result ≡ first_of (bytes_checks_of size long width height) }
+// The bytes of a tile: its size, and then their count. `block` is the bytes of a block, here and below.
+fn bytes_of(block: usize, long: usize, width: usize, height: usize) -> Result<Size, Refusal>
+    requires { block ≤ bc5_size }
+    ensures refusal { refusal_in result ≡ first_of (bytes_checks_of block long width height) }
+    ensures size { IfOk result (λ size. (size.width ≡ width) × (size.height ≡ height)) }
 {
-    crate::size(width, height)?;
-    if long != place::encoded_length(size, width, height) {
+    let size = size(width, height)?;
+    if long != size.encoded_length(block) {
         return Err(Refusal::EncodedLength);
     }
-    Ok(())
+    Ok(size)
 }
 
-pub fn tile_bytes(long: usize, width: usize, height: usize) -> Result<(), Refusal>
-    ensures { result ≡ first_of (bytes_checks long width height) }
+pub fn tile_bytes(long: usize, width: usize, height: usize) -> Result<Size, Refusal>
+    ensures refusal { refusal_in result ≡ first_of (bytes_checks long width height) }
+    ensures size { IfOk result (λ size. (size.width ≡ width) × (size.height ≡ height)) }
 {
     bytes_of(place::BC4_SIZE, long, width, height)
 }
 
 // A block of a tile that has so many bytes.
 pub fn view_of(
-    size: usize,
+    block: usize,
     long: usize,
     width: usize,
     height: usize,
     column: usize,
     row: usize,
 ) -> Result<(), Refusal>
-    requires { size ≤ bc5_size }
-    ensures { result ≡ first_of (view_checks_of size long width height column row) }
+    requires { block ≤ bc5_size }
+    ensures { result ≡ first_of (view_checks_of block long width height column row) }
 {
-    bytes_of(size, long, width, height)?;
-    if (column >= width / 4) | (row >= height / 4) {
+    let size = bytes_of(block, long, width, height)?;
+    if size.lacks(column, row) {
         return Err(Refusal::NoSuchBlock);
     }
     Ok(())

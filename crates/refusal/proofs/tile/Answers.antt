@@ -1,33 +1,29 @@
-use mathlib.Core.Path.{sym, ◌∙◌}
-use mathlib.Core.Bool.{false}
 use borrow.Author.Tests.{eq-eqb, ne_eqb, lt-ltb, le-ltb}
-use Rattle.place.proofs.Places.{size_good, size_small}
 use Rattle.refusal.specs.Refusals.{first_of, size_checks}
-use Rattle.refusal.proofs.Firsts.{refused_before, passed_before}
-use Rattle.refusal.proofs.Sizes.{size_passed}
-use Rattle.std.proofs.Common.{rules}
+use Rattle.refusal.proofs.Firsts.{handed_on, passes, refused_first, passed_first}
 use Rattle.refusal.proofs.tile.Goals as goal
 
-pub overflow_mul-area : goal.overflow_mul-area
-overflow_mul-area c = let small = size_small _ _ (size_passed _ _ (sym c.size-checked.ensures ∙ c.in-Passed.is)) in search rules
+pub returns-in_err-size-clause-refusal : goal.returns-in_err-size-clause-refusal
+returns-in_err-size-clause-refusal c = refused_first (size_checks _ _) _ c.from_residual.result c.from_residual.ensures.1 c.in_err-size.ensures.refusal
 
-pub returns-then-samples-area : goal.returns-then-samples-area
+pub returns-then-samples-area-clause-refusal : goal.returns-then-samples-area-clause-refusal
 unfolding first_of
-returns-then-samples-area c = rw (passed_before (size_checks _ _) _ (sym c.size-checked.ensures ∙ c.in-Passed.is), ne_eqb _ _ c.if-samples-area.true)
+returns-then-samples-area-clause-refusal c =
+    rw (← passed_first (size_checks _ _) _ c.in_ok-size.ensures.refusal, ← c.in_ok-size.ensures.size.0, ← c.in_ok-size.ensures.size.1, ← c.area.ensures, ne_eqb _ _ c.if-samples-area.true)
 
-pub encoded_length-requires : goal.encoded_length-requires
-encoded_length-requires c = let small = size_small _ _ (size_passed _ _ (sym c.size-checked.ensures ∙ c.in-Passed.is)) in search rules
-
-pub returns-then-room-encoded_length : goal.returns-then-room-encoded_length
+pub returns-then-room-encoded_length-clause-refusal : goal.returns-then-room-encoded_length-clause-refusal
 unfolding first_of
-returns-then-room-encoded_length c = rw (passed_before (size_checks _ _) _ (sym c.size-checked.ensures ∙ c.in-Passed.is), eq-eqb _ _ c.if-samples-area.false, ← c.encoded_length.ensures, lt-ltb _ _ c.if-room-encoded_length.true)
+returns-then-room-encoded_length-clause-refusal c =
+    rw (← passed_first (size_checks _ _) _ c.in_ok-size.ensures.refusal, ← c.in_ok-size.ensures.size.0, ← c.in_ok-size.ensures.size.1, ← c.encoded_length.ensures, ← c.area.ensures, eq-eqb _ _ c.if-samples-area.false, lt-ltb _ _ c.if-room-encoded_length.true)
 
-pub no_tile_nan-requires : goal.no_tile_nan-requires
-no_tile_nan-requires c = (size_good _ _ (size_passed _ _ (sym c.size-checked.ensures ∙ c.in-Passed.is))).0.some
-
-pub returns-in-Refused : goal.returns-in-Refused
-returns-in-Refused c = sym (refused_before (size_checks _ _) _ (sym c.size-checked.ensures ∙ c.in-Refused.is))
-
-pub returns-else-room-encoded_length : goal.returns-else-room-encoded_length
+pub returns-in_err-no_tile_nan-clause-refusal : goal.returns-in_err-no_tile_nan-clause-refusal
 unfolding first_of
-returns-else-room-encoded_length c = rw (passed_before (size_checks _ _) _ (sym c.size-checked.ensures ∙ c.in-Passed.is), eq-eqb _ _ c.if-samples-area.false, ← c.encoded_length.ensures, le-ltb _ _ c.if-room-encoded_length.false) c.no_tile_nan.ensures
+returns-in_err-no_tile_nan-clause-refusal c =
+    rw (handed_on c.from_residual-in_err-no_tile_nan.result c.from_residual-in_err-no_tile_nan.ensures.1, ← passed_first (size_checks _ _) _ c.in_ok-size.ensures.refusal, ← c.in_ok-size.ensures.size.0, ← c.in_ok-size.ensures.size.1, ← c.encoded_length.ensures, ← c.area.ensures, eq-eqb _ _ c.if-samples-area.false, le-ltb _ _ c.if-room-encoded_length.false)
+    c.in_err-no_tile_nan.ensures
+
+pub returns-clause-refusal : goal.returns-clause-refusal
+unfolding first_of
+returns-clause-refusal c =
+    rw (← passed_first (size_checks _ _) _ c.in_ok-size.ensures.refusal, ← c.in_ok-size.ensures.size.0, ← c.in_ok-size.ensures.size.1, ← c.encoded_length.ensures, ← c.area.ensures, eq-eqb _ _ c.if-samples-area.false, le-ltb _ _ c.if-room-encoded_length.false)
+    (passes c.in_ok-no_tile_nan.field-0 c.in_ok-no_tile_nan.ensures)

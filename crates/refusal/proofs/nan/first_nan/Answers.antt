@@ -1,13 +1,18 @@
--- `refusal::nan::first_nan` meets its contract: the samples that were passed are none.
+use mathlib.Core.Path.{sym}
+use native.Mathlib.Omega.{arith}
+use borrow.Author.Tests.{ltb-true}
 use Rattle.refusal.proofs.Nans.{nan_here, nan_later, nan_none}
-use Rattle.std.proofs.Common.{rules}
 use Rattle.refusal.proofs.nan.first_nan.Goals as goal
 
 pub returns-then-x : goal.returns-then-x
-returns-then-x c = nan_here _ _ c.loop-i-test.true c.loop-i.invariant.1 c.if-x.true
+returns-then-x c = rw (← c.if-any_nan.ensures, nan_here _ _ c.loop-index-test.true c.loop-index.invariant c.if-x.true)
 
-pub loop-i-preserved : goal.loop-i-preserved
-loop-i-preserved c = (search rules, nan_later _ _ c.loop-i-test.true c.loop-i.invariant.1 c.if-x.false)
+pub loop-index-preserved : goal.loop-index-preserved
+loop-index-preserved c = nan_later _ _ c.loop-index-test.true c.loop-index.invariant c.if-x.false
 
-pub returns : goal.returns
-returns c = nan_none _ _ c.loop-i-test.false c.loop-i.invariant.1
+-- one was found before
+pub returns-after-loop-index : goal.returns-after-loop-index
+returns-after-loop-index c =
+    let none = nan_none _ _ c.loop-index-test.false c.loop-index.invariant in
+    let one = ltb-true _ _ (sym c.if-any_nan.ensures) in
+    absurd (omega arith)

@@ -1,10 +1,13 @@
+use Rattle.refusal.specs.declared.Refusal.TheVariants.{InChannel}
+use Rattle.refusal.specs.declared.Fault.TheVariants.{Nan}
 use Rattle.refusal.specs.Refusals.{first_of}
+use Rattle.refusal.proofs.Nans.{some_told, none_told}
 use Rattle.refusal.proofs.nan.no_nan_in.Goals as goal
 
-pub returns-then-any_nan : goal.returns-then-any_nan
+pub returns-in-Some : goal.returns-in-Some
 unfolding first_of
-returns-then-any_nan c = rw (← c.any_nan.ensures, c.if-any_nan.true, ← c.first_nan-index.ensures)
+returns-in-Some c = some_told (λ i. InChannel (Nan c.args.channel i)) _ _ c.in-Some.ensures
 
-pub returns : goal.returns
+pub returns-in-None : goal.returns-in-None
 unfolding first_of
-returns c = rw (← c.any_nan.ensures, c.if-any_nan.false)
+returns-in-None c = none_told (λ i. InChannel (Nan c.args.channel i)) _ _ c.in-None.ensures
