@@ -1,7 +1,8 @@
 // The header of a DDS file: what it holds, and how it is written.
-ghost use Rattle.std.specs.Prelude.{◌≡◌, false, cond, ◌++◌, ◌≤◌, length, drop};
-ghost use Rattle.place.specs.Place.{bad_size};
+ghost use Rattle.std.specs.Prelude.{◌≡◌, cond, ◌++◌, ◌≤◌, length, drop};
 ghost use Rattle.dds.specs.Layout.{header_length, bc4u, bc4s, header_fields, header_of};
+
+use place::Size;
 
 pub const LENGTH: usize = 128;
 
@@ -32,17 +33,16 @@ fn four_characters(snorm: bool) -> u32
 }
 
 // The 32 fields: field k stands at byte 4k.
-fn fields_of(width: usize, height: usize, snorm: bool) -> [u32; 32]
-    requires { bad_size width height ≡ false }
-    ensures { result ≡ header_fields width height snorm }
+fn fields_of(size: Size, snorm: bool) -> [u32; 32]
+    ensures { result ≡ header_fields size.width size.height snorm }
 {
     let mut all = [0u32; 32];
     all[0] = DDS;
     all[1] = SIZE;
     all[2] = 0x81007;
-    all[3] = height as u32;
-    all[4] = width as u32;
-    all[5] = place::encoded_length(place::BC4_SIZE, width, height) as u32;
+    all[3] = size.height as u32;
+    all[4] = size.width as u32;
+    all[5] = size.encoded_length(place::BC4_SIZE) as u32;
     all[7] = 1;
     all[19] = 32;
     all[20] = 4;
@@ -52,11 +52,11 @@ fn fields_of(width: usize, height: usize, snorm: bool) -> [u32; 32]
 }
 
 // The 128 bytes, at the start of `out`. Later bytes stay.
-pub fn put(width: usize, height: usize, snorm: bool, out: &mut [u8])
-    requires { (bad_size width height ≡ false) × (header_length ≤ length out.old) }
-    ensures { out.new ≡ header_of width height snorm ++ drop header_length out.old }
+pub fn put(size: Size, snorm: bool, out: &mut [u8])
+    requires { header_length ≤ length out.old }
+    ensures { out.new ≡ header_of size.width size.height snorm ++ drop header_length out.old }
 {
-    let all = fields_of(width, height, snorm);
+    let all = fields_of(size, snorm);
     for k in 0..32usize {
         let field = fields::bytes_u32(all[k]);
         out[4 * k..4 * k + 4].copy_from_slice(&field);

@@ -1,14 +1,16 @@
 // Document 02, 1/12: a BC4 tile as a DDS file, written into lent bytes, and read back as a part of the caller's file.
 #![tactic(auto)]
 
-ghost use Rattle.std.specs.Prelude.{◌≡◌, length};
-ghost use Rattle.refusal.specs.Refusals.{first_of};
+ghost use Rattle.std.specs.Prelude.{◌≡◌, length, IfOk};
+ghost use Rattle.refusal.specs.Refusals.{refusal_in, first_of};
 ghost use Rattle.dds.specs.Checks.{write_checks, read_checks};
 ghost use Rattle.dds.specs.Calls.{write_answer, file_after, picture_in, read_answer, body_of};
 
 mod header;
 mod reading;
 
+use place::Size;
+use reading::Headers;
 use refusal::Refusal;
 
 // The tile that a file holds, and where its bytes start.
@@ -20,23 +22,30 @@ pub struct Picture {
     pub start: usize,
 }
 
-fn write_refusal(long: usize, width: usize, height: usize, room: usize) -> Result<(), Refusal>
-    ensures { result ≡ first_of (write_checks long width height room) }
+fn size_to_write(long: usize, width: usize, height: usize, room: usize) -> Result<Size, Refusal>
+    ensures refusal { refusal_in result ≡ first_of (write_checks long width height room) }
+    ensures size { IfOk result (λ size. (size.width ≡ width) × (size.height ≡ height)) }
 {
-    refusal::tile_bytes(long, width, height)?;
+    let size = refusal::tile_bytes(long, width, height)?;
     if room < header::LENGTH + long {
         return Err(Refusal::OutputLength);
     }
-    Ok(())
+    Ok(size)
 }
 
 // The file of a tile, into the first 128 + width * height / 2 bytes of `out`: how many it takes. Later bytes stay.
-pub fn write(tile: &[u8], width: usize, height: usize, snorm: bool, out: &mut [u8]) -> Result<usize, Refusal>
+pub fn write(
+    tile: &[u8],
+    width: usize,
+    height: usize,
+    snorm: bool,
+    out: &mut [u8],
+) -> Result<usize, Refusal>
     ensures answer { result ≡ write_answer (length tile.now) width height (length out.old) }
     ensures bytes { out.new ≡ file_after result tile.now width height snorm out.old }
 {
-    write_refusal(tile.len(), width, height, out.len())?;
-    header::put(width, height, snorm, out);
+    let size = size_to_write(tile.len(), width, height, out.len())?;
+    header::put(size, snorm, out);
     let end = header::LENGTH + tile.len();
     out[header::LENGTH..end].copy_from_slice(tile);
     Ok(end)
@@ -46,26 +55,22 @@ pub fn write(tile: &[u8], width: usize, height: usize, snorm: bool, out: &mut [u
 pub fn read(file: &[u8]) -> Result<Picture, Refusal>
     ensures { result ≡ read_answer file.now }
 {
-    read_refusal(file)?;
-    Ok(reading::picture(file))
+    Ok(Headers::checked(file)?.picture())
 }
 
 // The tile's bytes: that part of the caller's file, or an empty part where `read_refusal` refuses.
 pub fn body(file: &[u8]) -> &[u8]
     ensures { result.now ≡ body_of file.now }
 {
-    let checked = read_refusal(file);
-    match checked {
+    match Headers::checked(file) {
+        Ok(headers) => headers.body(),
         Err(_) => &file[0..0],
-        Ok(()) => {
-            let start = reading::body_at(file);
-            &file[start..]
-        }
     }
 }
 
 pub fn read_refusal(file: &[u8]) -> Result<(), Refusal>
     ensures { result ≡ first_of (read_checks file.now) }
 {
-    reading::cut(file)
+    Headers::checked(file)?;
+    Ok(())
 }

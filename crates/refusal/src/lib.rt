@@ -101,6 +101,7 @@ pub enum Field {
     ArraySize,
 }
 
+#[tactic(auto, unfolding(crate::specs::Refusals::first_of))]
 pub fn encode(samples: &[f32]) -> Result<(), Refusal>
     ensures { result ≡ first_of (encode_checks samples.now) }
 {
@@ -110,6 +111,7 @@ pub fn encode(samples: &[f32]) -> Result<(), Refusal>
     nan::no_nan(samples)
 }
 
+#[tactic(auto, unfolding(crate::specs::Refusals::first_of))]
 pub fn decode(encoded: &[u8]) -> Result<(), Refusal>
     ensures { result ≡ first_of (decode_checks encoded.now) }
 {
@@ -119,6 +121,7 @@ pub fn decode(encoded: &[u8]) -> Result<(), Refusal>
     Ok(())
 }
 
+#[tactic(auto, unfolding(crate::specs::Refusals::first_of))]
 pub fn error(samples: &[f32], encoded: &[u8]) -> Result<(), Refusal>
     ensures { result ≡ first_of (error_checks samples.now encoded.now) }
 {
@@ -131,6 +134,7 @@ pub fn error(samples: &[f32], encoded: &[u8]) -> Result<(), Refusal>
     nan::no_nan(samples)
 }
 
+#[tactic(auto, unfolding(crate::specs::Refusals::first_of))]
 pub fn resend(samples: &[f32], held: &[u8], o: Options) -> Result<(), Refusal>
     ensures { result ≡ first_of (resend_checks samples.now held.now o) }
 {

@@ -42,6 +42,7 @@ fn first_spot(samples: &[f32], size: Size) -> Option<Spot>
     })
 }
 
+#[tactic(auto, unfolding(crate::specs::Refusals::first_of))]
 pub fn no_nan(samples: &[f32]) -> Result<(), Refusal>
     ensures { result ≡ first_of (nan_check samples.now ∷ []) }
 {
@@ -51,6 +52,7 @@ pub fn no_nan(samples: &[f32]) -> Result<(), Refusal>
     }
 }
 
+#[tactic(auto, unfolding(crate::specs::Refusals::first_of))]
 pub fn no_tile_nan(samples: &[f32], size: Size) -> Result<(), Refusal>
     ensures { result ≡ first_of (tile_nan_check samples.now size.width ∷ []) }
 {
@@ -61,6 +63,7 @@ pub fn no_tile_nan(samples: &[f32], size: Size) -> Result<(), Refusal>
 }
 
 // The same of one of two channels, which the refusal says.
+#[tactic(auto, unfolding(crate::specs::Refusals::first_of))]
 pub fn no_nan_in(channel: Channel, samples: &[f32]) -> Result<(), Refusal>
     ensures { result ≡ first_of (nan_in channel samples.now ∷ []) }
 {
@@ -70,6 +73,7 @@ pub fn no_nan_in(channel: Channel, samples: &[f32]) -> Result<(), Refusal>
     }
 }
 
+#[tactic(auto, unfolding(crate::specs::Refusals::first_of))]
 pub fn no_tile_nan_in(channel: Channel, samples: &[f32], size: Size) -> Result<(), Refusal>
     ensures { result ≡ first_of (tile_nan_in channel samples.now size.width ∷ []) }
 {

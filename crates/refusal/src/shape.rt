@@ -7,6 +7,7 @@ use crate::{Refusal, Side};
 use place::Size;
 
 // What is wrong with a size that is: by number, and of one number the width before the height.
+#[tactic(auto, unfolding(crate::specs::Refusals::first_of, crate::specs::Refusals::size_checks, place::specs::Place::bad_size, place::specs::Place::bad_side))]
 fn wrong_size(width: usize, height: usize) -> Refusal
     requires { bad_size width height ≡ true }
     ensures { Err result ≡ first_of (size_checks width height) }
@@ -41,6 +42,7 @@ pub fn size(width: usize, height: usize) -> Result<Size, Refusal>
 }
 
 // The bytes of a tile: its size, and then their count. `block` is the bytes of a block, here and below.
+#[tactic(auto, unfolding(crate::specs::Refusals::first_of))]
 fn bytes_of(block: usize, long: usize, width: usize, height: usize) -> Result<Size, Refusal>
     requires { block ≤ bc5_size }
     ensures refusal { refusal_in result ≡ first_of (bytes_checks_of block long width height) }
@@ -61,6 +63,7 @@ pub fn tile_bytes(long: usize, width: usize, height: usize) -> Result<Size, Refu
 }
 
 // A block of a tile that has so many bytes.
+#[tactic(auto, unfolding(crate::specs::Refusals::first_of))]
 pub fn view_of(
     block: usize,
     long: usize,
