@@ -88,6 +88,12 @@ first_append (c ∷ cs) ds = go c.applies (first_append cs ds)
 pub refused_first : {A : Type 0} (cs ds : List Check) {q : Refusal} (r : Answer A) → IsErrAnd r (λ p. p ≡ q) → Err q ≡ first_of cs → refusal_in r ≡ first_of (cs ++ ds)
 refused_first cs ds r e first = rw (handed_on r e, first_append cs ds, ← first) refl
 
+pub refused_last : {A : Type 0} (cs : List Check) {q : Refusal} (r : Answer A) → IsErrAnd r (λ p. p ≡ q) → Err q ≡ first_of cs → refusal_in r ≡ first_of cs
+refused_last cs r e first = rw (handed_on r e, ← first) refl
+
+pub refused_there : (cs ds : List Check) {q : Refusal} (r : Checked) → IsErrAnd r (λ p. p ≡ q) → Err q ≡ first_of cs → r ≡ first_of (cs ++ ds)
+refused_there cs ds r e first = rw (handed_on r e, first_append cs ds, ← first) refl
+
 pub passed_first : (cs ds : List Check) → ◌≡◌ {A = Checked} (Ok tt) (first_of cs) → first_of ds ≡ first_of (cs ++ ds)
 passed_first cs ds first = rw (first_append cs ds, ← first) refl
 

@@ -151,6 +151,7 @@ pub fn resend(samples: &[f32], held: &[u8], o: Options) -> Result<(), Refusal>
 }
 
 // `room` is the length of the output.
+#[tactic(auto, using(crate::proofs::Firsts::passed_first, crate::proofs::Firsts::passes), unfolding(crate::specs::Refusals::first_of))]
 pub fn tile(samples: &[f32], width: usize, height: usize, room: usize) -> Result<Size, Refusal>
     ensures refusal { refusal_in result ≡ first_of (tile_checks samples.now width height room) }
     ensures size { IfOk result (λ size. (size.width ≡ width) × (size.height ≡ height)) }

@@ -42,7 +42,7 @@ pub fn size(width: usize, height: usize) -> Result<Size, Refusal>
 }
 
 // The bytes of a tile: its size, and then their count. `block` is the bytes of a block, here and below.
-#[tactic(auto, unfolding(crate::specs::Refusals::first_of))]
+#[tactic(auto, using(crate::proofs::Firsts::passed_first), unfolding(crate::specs::Refusals::first_of))]
 fn bytes_of(block: usize, long: usize, width: usize, height: usize) -> Result<Size, Refusal>
     requires { block ≤ bc5_size }
     ensures refusal { refusal_in result ≡ first_of (bytes_checks_of block long width height) }
@@ -63,7 +63,7 @@ pub fn tile_bytes(long: usize, width: usize, height: usize) -> Result<Size, Refu
 }
 
 // A block of a tile that has so many bytes.
-#[tactic(auto, unfolding(crate::specs::Refusals::first_of))]
+#[tactic(auto, using(crate::proofs::Firsts::passed_first), unfolding(crate::specs::Refusals::first_of))]
 pub fn view_of(
     block: usize,
     long: usize,

@@ -5,4 +5,4 @@ use Rattle.dds.specs.Layout.{header_field}
 use Rattle.dds.proofs.header.put.Given as goal
 
 abbrev pub invariant-loop-k : goal.invariant-loop-k
-invariant-loop-k l = (l.k ≤ 32) × Grown (header_field l.width l.height l.snorm) 4 l.initial.out l.out l.k
+invariant-loop-k l = (l.k ≤ 32) × Grown (header_field l.fn.size.width l.fn.size.height l.snorm) 4 l.initial.out l.out l.k
