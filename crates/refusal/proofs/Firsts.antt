@@ -91,6 +91,9 @@ refused_first cs ds r e first = rw (handed_on r e, first_append cs ds, ← first
 pub refused_last : {A : Type 0} (cs : List Check) {q : Refusal} (r : Answer A) → IsErrAnd r (λ p. p ≡ q) → Err q ≡ first_of cs → refusal_in r ≡ first_of cs
 refused_last cs r e first = rw (handed_on r e, ← first) refl
 
+pub call_refused : {A : Type 0} (value : A) (cs : List Check) {q : Refusal} (r : Answer A) → IsErrAnd r (λ p. p ≡ q) → Err q ≡ first_of cs → r ≡ answered Err (Ok value) (first_of cs)
+call_refused value cs r e first = rw (handed_on r e, ← first) refl
+
 pub refused_there : (cs ds : List Check) {q : Refusal} (r : Checked) → IsErrAnd r (λ p. p ≡ q) → Err q ≡ first_of cs → r ≡ first_of (cs ++ ds)
 refused_there cs ds r e first = rw (handed_on r e, first_append cs ds, ← first) refl
 

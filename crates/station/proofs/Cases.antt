@@ -1,4 +1,7 @@
 -- The document's four cases and its two refusals, at a place that has an entry and eight bytes; and what it says that bytes are alike.
+use Rattle.std.specs.Cmp.Lexicographic.{same_text, other_text}
+use Rattle.std.specs.Prelude.{nat_eq}
+use lib.Pointwise.{pointwise}
 use Rattle.core.specs.declared.result.Result.TheVariants.{Ok, Err}
 use mathlib.Core.Path.{◌≡◌, refl, sym, ◌∙◌}
 use mathlib.Core.Bool.{Bool, true, false, ◌&&◌}
@@ -72,3 +75,12 @@ alike_each xs ys (suc n) e i h =
 
 pub alike_equal : (xs ys : List ℕ) → length xs ≡ bc4_size → length ys ≡ bc4_size → alike xs ys bc4_size ≡ true → xs ≡ ys
 alike_equal xs ys p q e = ext_get_or 0 xs ys (p ∙ sym q) (λ i h. alike_each xs ys bc4_size e i (omega arith))
+
+-- what a test of two messages' bytes has told
+pub alike_told : (xs ys : List ℕ) → length xs ≡ bc4_size → length ys ≡ bc4_size → (t : Bool) → t ≡ pointwise nat_eq xs ys → alike xs ys bc4_size ≡ t
+alike_told xs ys p q true e = let same = same_text xs ys e in rw same (alike_same ys bc4_size)
+alike_told xs ys p q false e = go (alike xs ys bc4_size) refl
+  where
+    go : (t : Bool) → alike xs ys bc4_size ≡ t → alike xs ys bc4_size ≡ false
+    go true same = absurd (other_text xs ys e (alike_equal xs ys p q same))
+    go false other = other

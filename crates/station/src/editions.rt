@@ -2,7 +2,7 @@
 ghost use Rattle.std.specs.Prelude.{◌≡◌, ◌<◌, length};
 ghost use Rattle.place.specs.Place.{bc4_size};
 ghost use Rattle.refusal.specs.Refusals.{first_of, answered};
-ghost use Rattle.station.specs.Editions.{edition_in, entry_of, ahead as ahead_of, alike as alike_to};
+ghost use Rattle.station.specs.Editions.{edition_in, entry_of, ahead as ahead_of};
 ghost use Rattle.station.specs.Receiving.{edition_checks, becomes};
 
 use crate::Received;
@@ -29,25 +29,9 @@ fn ahead(edition: u16, entry: u32) -> u32
     (edition as u32 + WRAP - (entry - 1) % WRAP) % WRAP
 }
 
-// Looks at all eight: without a way out of its loop they are compared at once.
-fn alike(held: &[u8], block: &[u8]) -> bool
-    requires { (length held.now ≡ bc4_size) × (length block.now ≡ bc4_size) }
-    ensures { result ≡ alike_to held.now block.now bc4_size }
-{
-    let mut same = true;
-    for i in 0..place::BC4_SIZE {
-        same = same & (held[i] == block[i]);
-    }
-    same
-}
-
 // Of a message whose place has this entry and these bytes.
-pub fn received(
-    entry: u32,
-    edition: u16,
-    held: &[u8],
-    block: &[u8],
-) -> Result<Received, Refusal>
+#[tactic(auto, unfolding(refusal::specs::Refusals::first_of))]
+pub fn received(entry: u32, edition: u16, held: &[u8], block: &[u8]) -> Result<Received, Refusal>
     requires { (length held.now ≡ bc4_size) × (length block.now ≡ bc4_size) }
     ensures { result ≡ answered Err (Ok (becomes entry edition)) (first_of (edition_checks entry edition held.now block.now)) }
 {
@@ -56,7 +40,7 @@ pub fn received(
     }
     let steps = ahead(edition, entry);
     if steps == 0 {
-        if alike(held, block) {
+        if held == block {
             return Ok(Received::Repeated);
         }
         return Err(Refusal::EditionReused);

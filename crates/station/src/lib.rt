@@ -88,9 +88,5 @@ fn put(tile: &mut [u8], editions: &mut [u32], at: usize, entry: usize, edition: 
 pub fn clear(editions: &mut [u32])
     ensures { editions.new ≡ cleared editions.old }
 {
-    let mut i = 0;
-    while i < editions.len() {
-        editions[i] = 0;
-        i += 1;
-    }
+    editions.fill(0);
 }

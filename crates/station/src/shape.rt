@@ -7,6 +7,7 @@ use crate::editions;
 use refusal::Refusal;
 
 // `long`, `entries` and `count` are the lengths of the tile, of the record and of the message's bytes.
+#[tactic(auto, using(refusal::proofs::Firsts::passed_first), unfolding(refusal::specs::Refusals::first_of))]
 pub fn message(
     long: usize,
     entries: usize,
@@ -18,14 +19,14 @@ pub fn message(
 ) -> Result<(), Refusal>
     ensures { result ≡ first_of (shape_checks long entries count width height column row) }
 {
-    refusal::tile_bytes(long, width, height)?;
-    if entries != place::encoded_length(editions::ENTRY_SIZE, width, height) {
+    let size = refusal::tile_bytes(long, width, height)?;
+    if entries != size.encoded_length(editions::ENTRY_SIZE) {
         return Err(Refusal::EncodedLength);
     }
     if count != place::BC4_SIZE {
         return Err(Refusal::EncodedLength);
     }
-    if (column >= width / 4) | (row >= height / 4) {
+    if size.lacks(column, row) {
         return Err(Refusal::NoSuchBlock);
     }
     Ok(())
