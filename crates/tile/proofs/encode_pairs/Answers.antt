@@ -48,6 +48,6 @@ module _ (first second : List Float) (width height : ℕ) (o : Options) (old : L
 pub returns : goal.returns
 returns c =
     let a = c.args in
-    c.encode_channel-2.ensures
-    ∙ ap (again a.first.now a.second.now a.width a.height a.o a.out.now) c.encode_channel.ensures
-    ∙ both a.first.now a.second.now a.width a.height a.o a.out.now c.requires.0
+    c.encode-2.ensures
+    ∙ ap (again a.first.now a.second.now a.size.width a.size.height a.options a.out.now) c.encode.ensures
+    ∙ both a.first.now a.second.now a.size.width a.size.height a.options a.out.now a.size.good

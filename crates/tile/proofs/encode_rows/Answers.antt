@@ -13,6 +13,6 @@ pub returns : goal.returns
 returns c =
     let a = c.args in
     let old = a.out.now in
-    let block : ℕ → ℕ → List ℕ = block_bytes a.samples.now a.width a.o in
-    let only = all_ext _ block a.width a.height (λ column row h k. one_laid _ (block column row) (block_length old bc4_size (block_at bc4_size a.width column row))) in
-    c.encode_channel.ensures ∙ ap (λ bytes. bytes ++ drop (encoded_length bc4_size a.width a.height) old) only
+    let block : ℕ → ℕ → List ℕ = block_bytes a.samples.now a.size.width a.options in
+    let only = all_ext _ block a.size.width a.size.height (λ column row h k. one_laid _ (block column row) (block_length old bc4_size (block_at bc4_size a.size.width column row))) in
+    c.encode.ensures ∙ ap (λ bytes. bytes ++ drop (encoded_length bc4_size a.size.width a.size.height) old) only

@@ -6,11 +6,11 @@ use Rattle.options.specs.declared.Options.{Options}
 use Rattle.place.specs.Place.{along}
 use Rattle.place.proofs.Joined.{Grown}
 use Rattle.tile.specs.Tile.{block_bytes, block_in, laid_in}
-use Rattle.tile.proofs.encode_stretch.Given as goal
+use Rattle.tile.proofs.channel.Channel.encode_stretch.Given as goal
 
 -- block k of the stretch once its channel is in it
 abbrev pub piece : List Float → ℕ → ℕ → ℕ → ℕ → Options → List ℕ → ℕ → List ℕ
 piece samples size start width row o out₀ k = laid_in (block_in out₀ size (k * size)) start (block_bytes samples width o k row)
 
 abbrev pub invariant-loop-column : goal.invariant-loop-column
-invariant-loop-column l = (l.column ≤ along l.width) × Grown (piece l.samples l.size l.start l.width l.row l.o l.initial.out) l.size l.initial.out l.out l.column
+invariant-loop-column l = (l.column ≤ along l.self.size.width) × Grown (piece l.self.samples.now l.self.block l.self.start l.self.size.width l.row l.self.options l.initial.out) l.self.block l.initial.out l.out l.column
