@@ -4,7 +4,7 @@ use mathlib.Core.List.{List}
 use Prim.Native.Nat.{ℕ}
 use lib.Ieee.{Float}
 use Rattle.refusal.specs.Refusals.{Answer, Checked}
-use Rattle.refusal.proofs.Outcomes.{One-answer, One-refusal_in}
+use Rattle.refusal.proofs.Outcomes.{One-answer, One-outcome}
 use Rattle.bc4.proofs.encode_block.Kinds as encode-block-kinds
 use Rattle.bc4.proofs.encode_block.Reads as encode-block
 use Rattle.bc4.proofs.block_error.Kinds as block-error-kinds

@@ -70,6 +70,7 @@ pub fn resend(samples: &[f32], held: &[u8], o: Options) -> Result<Kept, Refusal>
 }
 
 // Of samples that were checked: the choice of a resend.
+#[tactic(auto, unfolding(crate::specs::Calls::better_of))]
 pub fn better(b: &[f32; 16], held: u64, o: Options) -> Kept
     ensures { result ≡ better_of b.now held o }
 {
@@ -99,23 +100,28 @@ pub fn encode_tile(
     ensures answer { result ≡ tile_answer samples.now width height (length out.old) }
     ensures bytes { out.new ≡ out_after result samples.now width height o out.old }
 {
-    refusal::tile(samples, width, height, out.len())?;
-    tile::encode_rows(samples, width, height, o, out);
-    Ok(place::encoded_length(place::BC4_SIZE, width, height))
+    let size = refusal::tile(samples, width, height, out.len())?;
+    tile::encode_rows(samples, size, o, out);
+    Ok(size.encoded_length(place::BC4_SIZE))
 }
 
 // The eight bytes of one block: that part of the caller's tile, or an empty part where `view_refusal` refuses.
 pub fn block_view(tile: &[u8], width: usize, height: usize, column: usize, row: usize) -> &[u8]
     ensures { result.now ≡ view_of tile.now width height column row }
 {
-    let checked = view_refusal(tile, width, height, column, row);
-    match checked {
+    match view_refusal(tile, width, height, column, row) {
         Err(_) => &tile[0..0],
         Ok(()) => tile::block_part(place::BC4_SIZE, tile, width, column, row),
     }
 }
 
-pub fn view_refusal(tile: &[u8], width: usize, height: usize, column: usize, row: usize) -> Result<(), Refusal>
+pub fn view_refusal(
+    tile: &[u8],
+    width: usize,
+    height: usize,
+    column: usize,
+    row: usize,
+) -> Result<(), Refusal>
     ensures { result ≡ first_of (view_checks (length tile.now) width height column row) }
 {
     refusal::view(tile, width, height, column, row)

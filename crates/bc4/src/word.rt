@@ -70,7 +70,13 @@ pub fn resend(samples: &[f32], held: &[u8], w: Word) -> Result<Kept, Refusal>
     crate::resend(samples, held, w.options)
 }
 
-pub fn encode_tile(samples: &[f32], width: usize, height: usize, w: Word, out: &mut [u8]) -> Result<usize, Refusal>
+pub fn encode_tile(
+    samples: &[f32],
+    width: usize,
+    height: usize,
+    w: Word,
+    out: &mut [u8],
+) -> Result<usize, Refusal>
     ensures answer { result ≡ tile_by_word samples.now width height w (length out.old) }
     ensures bytes { out.new ≡ out_after result samples.now width height w.options out.old }
 {

@@ -4,7 +4,7 @@ use mathlib.Core.List.{List}
 use Prim.Native.Nat.{ℕ}
 use lib.Ieee.{Float}
 use Rattle.refusal.specs.Refusals.{Answer, Checked}
-use Rattle.refusal.proofs.Outcomes.{One-answer, One-refusal_in}
+use Rattle.refusal.proofs.Outcomes.{One-answer, One-outcome}
 use Rattle.bc5.proofs.bytes.Kinds as bytes-kinds
 use Rattle.bc5.proofs.bytes.Reads as bytes
 use Rattle.bc5.proofs.encode_block.Kinds as encode-block-kinds

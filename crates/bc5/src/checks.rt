@@ -1,9 +1,10 @@
 // What each call on two channels refuses, in its order. Each check is BC4's own, of the first channel and then of the second.
-ghost use Rattle.std.specs.Prelude.{◌≡◌, ◌<◌};
-ghost use Rattle.refusal.specs.Refusals.{first_of};
+ghost use Rattle.std.specs.Prelude.{◌≡◌, IfOk};
+ghost use Rattle.refusal.specs.Refusals.{refusal_in, first_of};
 ghost use Rattle.bc5.specs.Checks.{nan_checks, tile_nan_checks, encode_checks, decode_checks, error_checks, resend_checks, tile_checks};
 
 use bc4::Options;
+use place::Size;
 use refusal::{Channel, Fault, Refusal};
 
 fn no_nans(first: &[f32], second: &[f32]) -> Result<(), Refusal>
@@ -13,12 +14,11 @@ fn no_nans(first: &[f32], second: &[f32]) -> Result<(), Refusal>
     refusal::no_nan_in(Channel::Second, second)
 }
 
-fn no_tile_nans(first: &[f32], second: &[f32], width: usize) -> Result<(), Refusal>
-    requires { 0 < width }
-    ensures { result ≡ first_of (tile_nan_checks first.now second.now width) }
+fn no_tile_nans(first: &[f32], second: &[f32], size: Size) -> Result<(), Refusal>
+    ensures { result ≡ first_of (tile_nan_checks first.now second.now size.width) }
 {
-    refusal::no_tile_nan_in(Channel::First, first, width)?;
-    refusal::no_tile_nan_in(Channel::Second, second, width)
+    refusal::no_tile_nan_in(Channel::First, first, size)?;
+    refusal::no_tile_nan_in(Channel::Second, second, size)
 }
 
 pub fn encode(first: &[f32], second: &[f32]) -> Result<(), Refusal>
@@ -76,19 +76,27 @@ pub fn resend(first: &[f32], second: &[f32], held: &[u8], o: Options) -> Result<
 }
 
 // `room` is the length of the output.
-pub fn tile(first: &[f32], second: &[f32], width: usize, height: usize, room: usize) -> Result<(), Refusal>
-    ensures { result ≡ first_of (tile_checks first.now second.now width height room) }
+pub fn tile(
+    first: &[f32],
+    second: &[f32],
+    width: usize,
+    height: usize,
+    room: usize,
+) -> Result<Size, Refusal>
+    ensures refusal { refusal_in result ≡ first_of (tile_checks first.now second.now width height room) }
+    ensures size { IfOk result (λ size. (size.width ≡ width) × (size.height ≡ height)) }
 {
-    refusal::size(width, height)?;
-    let area = width * height;
+    let size = refusal::size(width, height)?;
+    let area = size.area();
     if first.len() != area {
         return Err(Refusal::InChannel(Fault::Count(Channel::First)));
     }
     if second.len() != area {
         return Err(Refusal::InChannel(Fault::Count(Channel::Second)));
     }
-    if room < place::encoded_length(place::BC5_SIZE, width, height) {
+    if room < size.encoded_length(place::BC5_SIZE) {
         return Err(Refusal::OutputLength);
     }
-    no_tile_nans(first, second, width)
+    no_tile_nans(first, second, size)?;
+    Ok(size)
 }

@@ -76,7 +76,12 @@ pub fn decode_block(
     Ok(())
 }
 
-pub fn block_error(first: &[f32], second: &[f32], encoded: &[u8], snorm: bool) -> Result<Errors, Refusal>
+pub fn block_error(
+    first: &[f32],
+    second: &[f32],
+    encoded: &[u8],
+    snorm: bool,
+) -> Result<Errors, Refusal>
     ensures { result ≡ error_answer first.now second.now encoded.now snorm }
 {
     checks::error(first, second, encoded)?;
@@ -113,23 +118,28 @@ pub fn encode_tile(
     ensures answer { result ≡ tile_answer first.now second.now width height (length out.old) }
     ensures bytes { out.new ≡ out_after result first.now second.now width height o out.old }
 {
-    checks::tile(first, second, width, height, out.len())?;
-    tile::encode_pairs(first, second, width, height, o, out);
-    Ok(place::encoded_length(place::BC5_SIZE, width, height))
+    let size = checks::tile(first, second, width, height, out.len())?;
+    tile::encode_pairs(first, second, size, o, out);
+    Ok(size.encoded_length(place::BC5_SIZE))
 }
 
 // The sixteen bytes of one block: that part of the caller's tile, or an empty part where `view_refusal` refuses.
 pub fn block_view(tile: &[u8], width: usize, height: usize, column: usize, row: usize) -> &[u8]
     ensures { result.now ≡ view_of tile.now width height column row }
 {
-    let checked = view_refusal(tile, width, height, column, row);
-    match checked {
+    match view_refusal(tile, width, height, column, row) {
         Err(_) => &tile[0..0],
         Ok(()) => tile::block_part(place::BC5_SIZE, tile, width, column, row),
     }
 }
 
-pub fn view_refusal(tile: &[u8], width: usize, height: usize, column: usize, row: usize) -> Result<(), Refusal>
+pub fn view_refusal(
+    tile: &[u8],
+    width: usize,
+    height: usize,
+    column: usize,
+    row: usize,
+) -> Result<(), Refusal>
     ensures { result ≡ first_of (view_checks (length tile.now) width height column row) }
 {
     refusal::view_of(place::BC5_SIZE, tile.len(), width, height, column, row)

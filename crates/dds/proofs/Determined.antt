@@ -2,7 +2,7 @@
 use mathlib.Core.Path.{sym, ◌∙◌}
 use mathlib.Core.List.{List}
 use Prim.Native.Nat.{ℕ}
-use Rattle.refusal.proofs.Outcomes.{One-answer, One-refusal_in}
+use Rattle.refusal.proofs.Outcomes.{One-answer, One-outcome}
 use Rattle.refusal.specs.Refusals.{Answer}
 use Rattle.dds.proofs.write.Kinds as write-kinds
 use Rattle.dds.proofs.write.Reads as write

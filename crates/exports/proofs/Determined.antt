@@ -4,7 +4,7 @@ use mathlib.Core.Path.{sym, ◌∙◌}
 use mathlib.Core.List.{List}
 use Prim.Native.Nat.{ℕ}
 use lib.Ieee.{Float}
-use Rattle.refusal.proofs.Outcomes.{One-answer, One-refusal_in}
+use Rattle.refusal.proofs.Outcomes.{One-answer, One-outcome}
 use Rattle.exports.proofs.bc4_version.Kinds as version-kinds
 use Rattle.exports.proofs.bc4_version.Reads as version
 use Rattle.exports.proofs.bc4_encode_block.Kinds as encode-kinds

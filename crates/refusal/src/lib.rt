@@ -180,11 +180,8 @@ pub fn view(
 }
 
 // Of a call whose options word is malformed: what the call refuses for another reason comes first.
-pub fn or_malformed(checked: Result<(), Refusal>) -> Refusal
-    ensures { result ≡ or_malformed checked }
+pub fn or_malformed<T: Copy>(checked: Result<T, Refusal>) -> Refusal
+    ensures { result ≡ or_malformed (refusal_in checked) }
 {
-    match checked {
-        Err(q) => q,
-        Ok(()) => Refusal::WordMalformed,
-    }
+    checked.err().unwrap_or(Refusal::WordMalformed)
 }

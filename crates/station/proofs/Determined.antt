@@ -3,7 +3,7 @@ use Rattle.refusal.specs.Refusals.{Answer}
 use mathlib.Core.Path.{sym, ◌∙◌}
 use mathlib.Core.List.{List}
 use Prim.Native.Nat.{ℕ}
-use Rattle.refusal.proofs.Outcomes.{One-refusal_in}
+use Rattle.refusal.proofs.Outcomes.{One-outcome}
 use Rattle.station.specs.declared.Received.{Received}
 use Rattle.station.proofs.receive.Kinds as receive-kinds
 use Rattle.station.proofs.receive.Reads as receive
