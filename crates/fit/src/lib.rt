@@ -62,10 +62,10 @@ fn weigh_four(p: Inter6Palette, x0: f32, x1: f32, x2: f32, x3: f32) -> Lane
     let v2 = 1.0 - w2;
     let v3 = 1.0 - w3;
     Lane {
-        w0: w0,
-        w1: w1,
-        w2: w2,
-        w3: w3,
+        w0,
+        w1,
+        w2,
+        w3,
         ww: w0 * w0 + w1 * w1 + w2 * w2 + w3 * w3,
         wv: w0 * v0 + w1 * v1 + w2 * v2 + w3 * v3,
         vv: v0 * v0 + v1 * v1 + v2 * v2 + v3 * v3,
@@ -103,14 +103,14 @@ fn weigh(p: Inter6Palette, b: &[f32; 16]) -> Weighed
         above = above & l.above;
     }
     Weighed {
-        w0: w0,
-        w1: w1,
-        w2: w2,
-        w3: w3,
-        ww: ww,
-        wv: wv,
-        vv: vv,
-        above: above,
+        w0,
+        w1,
+        w2,
+        w3,
+        ww,
+        wv,
+        vv,
+        above,
     }
 }
 
@@ -193,8 +193,8 @@ fn fit_lanes(b: &[f32; 16], p: Pair) -> Lanes
     let first = line_lanes(b, g, m.e01, m.e00_01);
     let second = line_lanes(b, g, m.e11, m.e10_11);
     Lanes {
-        first: first,
-        second: second,
+        first,
+        second,
         above: g.above,
     }
 }
