@@ -3,7 +3,6 @@
 #![tactic(auto)]
 
 ghost use Rattle.std.specs.Prelude.{◌≡◌, ◌<◌};
-ghost use Rattle.floats.specs.Arithmetic.{◌⊕◌, ◌⊗◌};
 ghost use Rattle.fit.specs.Fit.{fitted as fitted_of};
 ghost use Rattle.fit.specs.Lanes.{lane_of, lane_at, weighed, across as across_of, line_lane as line_lane_of, line_lanes, matrix as matrix_of, all_above, fit_lanes, ends as ends_of};
 
@@ -79,39 +78,14 @@ fn across(s: [f32; 4]) -> f32
     (s[0] + s[1]) + (s[2] + s[3])
 }
 
-fn line_four(
-    e: f32,
-    d: f32,
-    x0: f32,
-    x1: f32,
-    x2: f32,
-    x3: f32,
-    w0: f32,
-    w1: f32,
-    w2: f32,
-    w3: f32,
-) -> f32
-    ensures { result ≡ x0 ⊗ (e ⊕ d ⊗ w0) ⊕ x1 ⊗ (e ⊕ d ⊗ w1) ⊕ x2 ⊗ (e ⊕ d ⊗ w2) ⊕ x3 ⊗ (e ⊕ d ⊗ w3) }
-{
-    x0 * (e + d * w0) + x1 * (e + d * w1) + x2 * (e + d * w2) + x3 * (e + d * w3)
-}
-
 fn line_lane(b: &[f32; 16], l: Lane, e: f32, d: f32, j: usize) -> f32
     requires { j < 4 }
     ensures { result ≡ line_lane_of b.now l e d j }
 {
-    line_four(
-        e,
-        d,
-        b[j],
-        b[j + 4],
-        b[j + 8],
-        b[j + 12],
-        l.w0,
-        l.w1,
-        l.w2,
-        l.w3,
-    )
+    b[j] * (e + d * l.w0)
+        + b[j + 4] * (e + d * l.w1)
+        + b[j + 8] * (e + d * l.w2)
+        + b[j + 12] * (e + d * l.w3)
 }
 
 fn line_lanes(b: &[f32; 16], g: &[Lane; 4], e: f32, d: f32) -> [f32; 4]
