@@ -48,12 +48,7 @@ fn eight_values(c0: f32, c1: f32, six: bool) -> [f32; 8]
 fn look_up(list: IndexList, eight: [f32; 8], out: &mut [f32; 16])
     ensures { out.new ≡ per_pixel (picked eight list.data) }
 {
-    let mut samples = [0.0f32; 16];
-    for i in 0..16usize {
-        let at = list.get(i) as usize;
-        samples[i] = eight[at];
-    }
-    *out = samples;
+    *out = std::array::from_fn(|i| eight[list.get(i) as usize]);
 }
 
 // The floats of two levels, both by one conversion: that of a single number keeps the rest of its register, and so waits for what the block before it
@@ -62,19 +57,14 @@ fn end_values(l0: u8, l1: u8, snorm: bool) -> [f32; 2]
     ensures { result ≡ level_value l0 snorm ∷ level_value l1 snorm ∷ [] }
 {
     let levels = [l0, l1];
-    let mut floats = [0.0f32; 2];
-    for i in 0..2usize {
-        floats[i] = values::level_value(levels[i], snorm);
-    }
-    floats
+    std::array::from_fn(|i| values::level_value(levels[i], snorm))
 }
 
 // Sixteen samples into the caller's array. The format is told apart here, so that each gets straight code.
 pub fn decode_into(block: u64, snorm: bool, out: &mut [f32; 16])
     ensures { out.new ≡ decoded block snorm }
 {
-    let c0 = (block % 256) as u8;
-    let c1 = ((block >> 8) % 256) as u8;
+    let [c0, c1, ..] = block.to_le_bytes();
     let list = IndexList { data: block >> 16 };
     if snorm {
         let e = end_values(values::s8::norm(c0), values::s8::norm(c1), true);
@@ -96,8 +86,8 @@ fn error_sum(samples: &[f32; 16], values: &[f32; 16]) -> f32
     ensures { result ≡ error_to samples.now values.now 16 }
 {
     let mut sum = 0.0f32;
-    for i in 0..16usize {
-        sum = sum + sample_error(samples[i], values[i]);
+    for (s, v) in samples.iter().zip(values) {
+        sum = sum + sample_error(*s, *v);
     }
     sum
 }

@@ -40,17 +40,11 @@ fn apart(low: u8, high: u8) -> Levels
 {
     if low == high {
         if low == 0 {
-            return Levels { low: low, high: 1 };
+            return Levels { low, high: 1 };
         }
-        return Levels {
-            low: low - 1,
-            high: high,
-        };
+        return Levels { low: low - 1, high };
     }
-    Levels {
-        low: low,
-        high: high,
-    }
+    Levels { low, high }
 }
 
 // The caller's signed ends are clamped, or a NaN.
@@ -63,10 +57,7 @@ fn between(min: f32, max: f32, snorm: bool) -> Levels
     if low == high {
         return apart(rounded_down(min, snorm), rounded_up(max, snorm));
     }
-    Levels {
-        low: low,
-        high: high,
-    }
+    Levels { low, high }
 }
 
 fn in_format(x: f32, snorm: bool) -> f32

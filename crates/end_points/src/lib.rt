@@ -26,8 +26,8 @@ impl EndPoints {
         ensures { result ≡ of_bytes c0 c1 snorm }
     {
         Self {
-            c0: c0,
-            c1: c1,
+            c0,
+            c1,
             c0_f: values::value(c0, snorm),
             c1_f: values::value(c1, snorm),
         }

@@ -17,7 +17,7 @@ use Rattle.bcn_util.specs.declared.least_squares.WeightMatrix.{WeightMatrix}
 use Rattle.bcn_util.specs.LeastSquares.{dot_in_pairs, complement, matrix_of, line, least_squares}
 use Rattle.fit.specs.declared.Lanes.{Lanes}
 use Rattle.fit.specs.Fit.{fitted}
-use Rattle.fit.specs.Lanes.{weight_of, above_of, lane_of, lane_at, above_to, weighed, across, matrix, line_lanes, fit_lanes, ends}
+use Rattle.fit.specs.Lanes.{weight_of, above_of, lane_of, lane_at, all_above, weighed, across, matrix, line_lanes, fit_lanes, ends}
 
 -- ---- every blend is above -1
 both_true : (s t : Bool) → (s && t) ≡ true → (s ≡ true) × (t ≡ true)
@@ -32,11 +32,11 @@ four_true s t u v h =
     (p.0, p.1, q.1, r.1)
 
 module _ (p : Inter6Palette) (b : List Float) where
-  each_above : (weighed p b).above ≡ true → (i : ℕ) → i < 16 → above_of p (pixel_at b i) ≡ true
-  unfolding weighed lane_of above_to
+  each_above : all_above (weighed p b) ≡ true → (i : ℕ) → i < 16 → above_of p (pixel_at b i) ≡ true
+  unfolding weighed lane_of tabulate
   each_above h = all_lanes _ (λ j l. four_true _ _ _ _ (each_of_four (λ j. (lane_at p b j).above ≡ true) (four_true _ _ _ _ h) j l))
 
-  weights_above : (weighed p b).above ≡ true → per_pixel (λ i. weight_of p (pixel_at b i)) ≡ weights p b
+  weights_above : all_above (weighed p b) ≡ true → per_pixel (λ i. weight_of p (pixel_at b i)) ≡ weights p b
   unfolding weights
   weights_above h = tabulated nan _ _ (length_tabulate (λ i. weight_of p (pixel_at b i)) 0 16) (λ i l. get_d_tabulate (λ i. weight_of p (pixel_at b i)) nan l ∙ weight_above p (pixel_at b i) (each_above h i l))
 

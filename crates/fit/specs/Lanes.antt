@@ -1,5 +1,6 @@
 -- One fit of `fitted` worked out lane by lane, where every blend is above -1: `lanes_fitted` in proofs/ says that the ends are the same.
-use Rattle.std.specs.Prelude.{List, [], ◌∷◌, Bool, true, ◌&&◌, ℕ, zero, suc, ◌+◌, Float}
+use Rattle.std.specs.Prelude.{List, Bool, false, ◌&&◌, ℕ, ◌+◌, get_or, Float}
+use Rattle.std.specs.Float.{nan}
 use Rattle.std.specs.Float.Ieee.{lt, neg}
 use Rattle.floats.specs.Arithmetic.{◌⊕◌, ◌⊖◌, ◌⊗◌, squared, f1}
 use Rattle.floats.specs.Helpers.{clamp_of}
@@ -12,7 +13,6 @@ use Rattle.palette.specs.Rows.{cut_weight}
 use Rattle.bcn_util.specs.declared.least_squares.WeightMatrix.{WeightMatrix}
 use Rattle.bcn_util.specs.LeastSquares.{from_d, or_mean}
 use Rattle.fit.specs.declared.Lane.{Lane}
-use Rattle.fit.specs.declared.Weighed.{Weighed}
 use Rattle.fit.specs.declared.Lanes.{Lanes}
 
 -- ---- of a sample
@@ -38,43 +38,40 @@ lane_of p x0 x1 x2 x3 = let rest : Float → Float = λ x. f1 ⊖ weight_of p x 
 abbrev pub lane_at : Inter6Palette → List Float → ℕ → Lane
 lane_at p b j = lane_of p (pixel_at b j) (pixel_at b (j + 4)) (pixel_at b (j + 8)) (pixel_at b (j + 12))
 
--- in the first j lanes
-unfoldable pub above_to : Inter6Palette → List Float → ℕ → Bool
-above_to p b zero = true
-above_to p b (suc j) = above_to p b j && (lane_at p b j).above
+unfoldable pub weighed : Inter6Palette → List Float → List Lane
+weighed p b = tabulate (lane_at p b) 0 4
 
-unfoldable pub weighed : Inter6Palette → List Float → Weighed
-weighed p b = record {
-  w0 = tabulate (λ j. (lane_at p b j).w0) 0 4;
-  w1 = tabulate (λ j. (lane_at p b j).w1) 0 4;
-  w2 = tabulate (λ j. (lane_at p b j).w2) 0 4;
-  w3 = tabulate (λ j. (lane_at p b j).w3) 0 4;
-  ww = tabulate (λ j. (lane_at p b j).ww) 0 4;
-  wv = tabulate (λ j. (lane_at p b j).wv) 0 4;
-  vv = tabulate (λ j. (lane_at p b j).vv) 0 4;
-  above = above_to p b 4;
-}
+-- lane j of four
+abbrev pub lane : List Lane → ℕ → Lane
+lane g j = get_or g j (record { w0 = nan; w1 = nan; w2 = nan; w3 = nan; ww = nan; wv = nan; vv = nan; above = false })
+
+abbrev pub all_above : List Lane → Bool
+all_above g = (lane g 0).above && (lane g 1).above && (lane g 2).above && (lane g 3).above
 
 -- ---- of the block: the lanes' sums as (x + y) + (z + w)
 abbrev pub across : List Float → Float
 across s = (pixel_at s 0 ⊕ pixel_at s 1) ⊕ (pixel_at s 2 ⊕ pixel_at s 3)
 
-unfoldable pub matrix : Weighed → WeightMatrix
-matrix g = or_mean (from_d (across g.ww) (across g.wv) (across g.vv))
+-- and of one part of them
+abbrev pub across_lanes : (Lane → Float) → List Lane → Float
+across_lanes part g = (part (lane g 0) ⊕ part (lane g 1)) ⊕ (part (lane g 2) ⊕ part (lane g 3))
 
-abbrev pub line_lane : List Float → Weighed → Float → Float → ℕ → Float
-line_lane b g e d j =
-    let at : List Float → ℕ → Float = λ w i. pixel_at b i ⊗ (e ⊕ d ⊗ pixel_at w j) in
-    at g.w0 j ⊕ at g.w1 (j + 4) ⊕ at g.w2 (j + 8) ⊕ at g.w3 (j + 12)
+unfoldable pub matrix : List Lane → WeightMatrix
+matrix g = or_mean (from_d (across_lanes (λ l. l.ww) g) (across_lanes (λ l. l.wv) g) (across_lanes (λ l. l.vv) g))
 
-abbrev pub line_lanes : List Float → Weighed → Float → Float → List Float
-line_lanes b g e d = line_lane b g e d 0 ∷ line_lane b g e d 1 ∷ line_lane b g e d 2 ∷ line_lane b g e d 3 ∷ []
+abbrev pub line_lane : List Float → Lane → Float → Float → ℕ → Float
+line_lane b l e d j =
+    let at : Float → ℕ → Float = λ w i. pixel_at b i ⊗ (e ⊕ d ⊗ w) in
+    at l.w0 j ⊕ at l.w1 (j + 4) ⊕ at l.w2 (j + 8) ⊕ at l.w3 (j + 12)
+
+abbrev pub line_lanes : List Float → List Lane → Float → Float → List Float
+line_lanes b g e d = tabulate (λ j. line_lane b (lane g j) e d j) 0 4
 
 unfoldable pub fit_lanes : List Float → Pair → Lanes
 fit_lanes b p =
     let g = weighed (inter6_palette p.0 p.1) b in
     let m = matrix g in
-    record { first = line_lanes b g m.e01 m.e00_01; second = line_lanes b g m.e11 m.e10_11; above = g.above }
+    record { first = line_lanes b g m.e01 m.e00_01; second = line_lanes b g m.e11 m.e10_11; above = all_above g }
 
 abbrev pub ends : Lanes → Pair
 ends l = record { 0 = clamp_of (across l.first); 1 = clamp_of (across l.second) }

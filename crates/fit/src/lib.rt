@@ -3,9 +3,8 @@
 #![tactic(auto)]
 
 ghost use Rattle.std.specs.Prelude.{◌≡◌, ◌<◌};
-ghost use Rattle.floats.specs.Arithmetic.{◌⊕◌, ◌⊗◌};
 ghost use Rattle.fit.specs.Fit.{fitted as fitted_of};
-ghost use Rattle.fit.specs.Lanes.{lane_of, lane_at, weighed, across as across_of, line_lane as line_lane_of, line_lanes, matrix as matrix_of, fit_lanes, ends as ends_of};
+ghost use Rattle.fit.specs.Lanes.{lane_of, lane_at, weighed, across as across_of, line_lane as line_lane_of, line_lanes, matrix as matrix_of, all_above, fit_lanes, ends as ends_of};
 
 use bcn_util::least_squares::WeightMatrix;
 use floats::Pair;
@@ -22,19 +21,6 @@ pub struct Lane {
     pub ww: f32,
     pub wv: f32,
     pub vv: f32,
-    pub above: bool,
-}
-
-// The sixteen weights by rows, and each lane's sums.
-#[derive(Clone, Copy)]
-pub struct Weighed {
-    pub w0: [f32; 4],
-    pub w1: [f32; 4],
-    pub w2: [f32; 4],
-    pub w3: [f32; 4],
-    pub ww: [f32; 4],
-    pub wv: [f32; 4],
-    pub vv: [f32; 4],
     pub above: bool,
 }
 
@@ -62,10 +48,10 @@ fn weigh_four(p: Inter6Palette, x0: f32, x1: f32, x2: f32, x3: f32) -> Lane
     let v2 = 1.0 - w2;
     let v3 = 1.0 - w3;
     Lane {
-        w0: w0,
-        w1: w1,
-        w2: w2,
-        w3: w3,
+        w0,
+        w1,
+        w2,
+        w3,
         ww: w0 * w0 + w1 * w1 + w2 * w2 + w3 * w3,
         wv: w0 * v0 + w1 * v1 + w2 * v2 + w3 * v3,
         vv: v0 * v0 + v1 * v1 + v2 * v2 + v3 * v3,
@@ -80,38 +66,10 @@ fn weigh_lane(p: Inter6Palette, b: &[f32; 16], j: usize) -> Lane
     weigh_four(p, b[j], b[j + 4], b[j + 8], b[j + 12])
 }
 
-fn weigh(p: Inter6Palette, b: &[f32; 16]) -> Weighed
+fn weigh(p: Inter6Palette, b: &[f32; 16]) -> [Lane; 4]
     ensures { result ≡ weighed p b.now }
 {
-    let mut w0 = [0.0f32; 4];
-    let mut w1 = [0.0f32; 4];
-    let mut w2 = [0.0f32; 4];
-    let mut w3 = [0.0f32; 4];
-    let mut ww = [0.0f32; 4];
-    let mut wv = [0.0f32; 4];
-    let mut vv = [0.0f32; 4];
-    let mut above = true;
-    for j in 0..4usize {
-        let l = weigh_lane(p, b, j);
-        w0[j] = l.w0;
-        w1[j] = l.w1;
-        w2[j] = l.w2;
-        w3[j] = l.w3;
-        ww[j] = l.ww;
-        wv[j] = l.wv;
-        vv[j] = l.vv;
-        above = above & l.above;
-    }
-    Weighed {
-        w0: w0,
-        w1: w1,
-        w2: w2,
-        w3: w3,
-        ww: ww,
-        wv: wv,
-        vv: vv,
-        above: above,
-    }
+    std::array::from_fn(|j| weigh_lane(p, b, j))
 }
 
 fn across(s: [f32; 4]) -> f32
@@ -120,67 +78,36 @@ fn across(s: [f32; 4]) -> f32
     (s[0] + s[1]) + (s[2] + s[3])
 }
 
-fn line_four(
-    e: f32,
-    d: f32,
-    x0: f32,
-    x1: f32,
-    x2: f32,
-    x3: f32,
-    w0: f32,
-    w1: f32,
-    w2: f32,
-    w3: f32,
-) -> f32
-    ensures { result ≡ x0 ⊗ (e ⊕ d ⊗ w0) ⊕ x1 ⊗ (e ⊕ d ⊗ w1) ⊕ x2 ⊗ (e ⊕ d ⊗ w2) ⊕ x3 ⊗ (e ⊕ d ⊗ w3) }
-{
-    x0 * (e + d * w0) + x1 * (e + d * w1) + x2 * (e + d * w2) + x3 * (e + d * w3)
-}
-
-fn line_lane(b: &[f32; 16], g: Weighed, e: f32, d: f32, j: usize) -> f32
+fn line_lane(b: &[f32; 16], l: Lane, e: f32, d: f32, j: usize) -> f32
     requires { j < 4 }
-    ensures { result ≡ line_lane_of b.now g e d j }
+    ensures { result ≡ line_lane_of b.now l e d j }
 {
-    let w0 = g.w0;
-    let w1 = g.w1;
-    let w2 = g.w2;
-    let w3 = g.w3;
-    line_four(
-        e,
-        d,
-        b[j],
-        b[j + 4],
-        b[j + 8],
-        b[j + 12],
-        w0[j],
-        w1[j],
-        w2[j],
-        w3[j],
-    )
+    b[j] * (e + d * l.w0)
+        + b[j + 4] * (e + d * l.w1)
+        + b[j + 8] * (e + d * l.w2)
+        + b[j + 12] * (e + d * l.w3)
 }
 
-fn line_lanes(b: &[f32; 16], g: Weighed, e: f32, d: f32) -> [f32; 4]
-    ensures { result ≡ line_lanes b.now g e d }
+fn line_lanes(b: &[f32; 16], g: &[Lane; 4], e: f32, d: f32) -> [f32; 4]
+    ensures { result ≡ line_lanes b.now g.now e d }
 {
-    [
-        line_lane(b, g, e, d, 0),
-        line_lane(b, g, e, d, 1),
-        line_lane(b, g, e, d, 2),
-        line_lane(b, g, e, d, 3),
-    ]
+    std::array::from_fn(|j| line_lane(b, g[j], e, d, j))
 }
 
-fn matrix(g: Weighed) -> WeightMatrix
-    ensures { result ≡ matrix_of g }
+fn matrix(g: &[Lane; 4]) -> WeightMatrix
+    ensures { result ≡ matrix_of g.now }
 {
-    let ww = g.ww;
-    let wv = g.wv;
-    let vv = g.vv;
     bcn_util::least_squares::or_mean(bcn_util::least_squares::from_d(
-        across(ww),
-        across(wv),
-        across(vv),
+        across([g[0].ww, g[1].ww, g[2].ww, g[3].ww]),
+        across([g[0].wv, g[1].wv, g[2].wv, g[3].wv]),
+        across([g[0].vv, g[1].vv, g[2].vv, g[3].vv]),
     ))
+}
+
+fn all_above(g: &[Lane; 4]) -> bool
+    ensures { result ≡ all_above g.now }
+{
+    g[0].above & g[1].above & g[2].above & g[3].above
 }
 
 // Called from two places, so that it stays a function of its own, which hands its lanes on in memory: what is written as four neighbours is worked
@@ -189,22 +116,23 @@ fn fit_lanes(b: &[f32; 16], p: Pair) -> Lanes
     ensures { result ≡ fit_lanes b.now p }
 {
     let g = weigh(Inter6Palette::new(p.0, p.1), b);
-    let m = matrix(g);
-    let first = line_lanes(b, g, m.e01, m.e00_01);
-    let second = line_lanes(b, g, m.e11, m.e10_11);
+    let m = matrix(&g);
+    let first = line_lanes(b, &g, m.e01, m.e00_01);
+    let second = line_lanes(b, &g, m.e11, m.e10_11);
     Lanes {
-        first: first,
-        second: second,
-        above: g.above,
+        first,
+        second,
+        above: all_above(&g),
     }
 }
 
 fn ends(l: Lanes) -> Pair
     ensures { result ≡ ends_of l }
 {
-    let first = l.first;
-    let second = l.second;
-    Pair(floats::clamp(across(first)), floats::clamp(across(second)))
+    Pair(
+        floats::clamp(across(l.first)),
+        floats::clamp(across(l.second)),
+    )
 }
 
 // A blend of -1 or less is rare, and so is a NaN.

@@ -8,12 +8,12 @@ use lib.Ieee.Nearest.{div_mono}
 use lib.Ieee.Casts.{to_unsigned-lt}
 use mir.ValLaws.{to_z-of_z}
 use borrow.Author.Tests.{lt-leb}
-use Rattle.floats.specs.Arithmetic.{bits, whole, f0, f1, f255, f2^23}
+use Rattle.floats.specs.Arithmetic.{bits, whole, f0, f1, f2^23}
 use Rattle.floats.specs.Helpers.{lane_min, lane_max, byte_of, byte_up_to7}
 use Rattle.floats.proofs.Tests.{so, iff, clash, leb_not_ltb}
 use Rattle.floats.proofs.Fractions.{le_plain}
 use Rattle.floats.proofs.SignedOrder.{zero_factor}
-use Rattle.floats.proofs.Order.{le_right, lt_right, lt_of_not, le_of_not, le_of_lt, lt_trans, lt_le_trans}
+use Rattle.floats.proofs.Order.{lt_right, le_of_not, le_of_lt, lt_trans, lt_le_trans}
 
 -- ---- a cast keeps the order
 less_min : (p q c : ℕ) → p ≤ q → min p c ≤ min q c
@@ -103,18 +103,11 @@ at_1 : (x : Float) → le f1 x ≡ leb 1 (byte_of x)
 unfolding of_bits
 at_1 x = threshold 8 1 0 x (lit< tt) (lit< tt)
 
--- ---- the cast to a byte, by way of 64 bits
-at_255 : (x : Float) → le f255 x ≡ leb 255 (byte_of x)
-unfolding of_bits
-at_255 x = threshold 8 255 0 x (lit< tt) (lit< tt)
-
-pub byte_full : (x : Float) → le f255 x ≡ true → 255 ≡ byte_of x
-byte_full x h = let g : 255 ≤ byte_of x = leb-true _ _ (sym (at_255 x) ∙ h) in let l : byte_of x ≤ 255 = byte_of_le x in omega arith
-
-pub byte_empty : (x : Float) → le f1 x ≡ false → 0 ≡ byte_of x
+-- ---- the cast to a byte
+byte_empty : (x : Float) → le f1 x ≡ false → 0 ≡ byte_of x
 byte_empty x h = let g : byte_of x < 1 = leb-false _ _ (sym (at_1 x) ∙ h) in omega arith
 
-pub byte_narrow : (x : Float) → byte_of x ≡ min (to_unsigned 64 x) 255
+byte_narrow : (x : Float) → byte_of x ≡ min (to_unsigned 64 x) 255
 unfolding to_unsigned
 byte_narrow nan = refl
 byte_narrow (inf true) = refl
@@ -124,18 +117,6 @@ byte_narrow (fin false m e) = caps (m * up e / down e) (2 ^ 8 - 1) (2 ^ 64 - 1) 
   where
     caps : (q a b : ℕ) → a ≤ b → min q a ≡ min (min q b) a
     caps q a b h = omega arith
-
-pub byte_under : (x : Float) → le f255 x ≡ false → to_unsigned 64 x < 255
-byte_under x h = let g : byte_of x < 255 = leb-false _ _ (sym (at_255 x) ∙ h) in omega (arith, byte_narrow x)
-
--- what std's truncation asks of an x from 1 to below 255
-pub cut_low : (x : Float) → le f1 x ≡ true → T (lt (fin true 1 (pos 0)) x)
-unfolding lt of_bits
-cut_low x h = so (lt_le_trans (fin true 1 (pos 0)) f1 x refl h)
-
-pub cut_high : (x : Float) → le f1 x ≡ true → le f255 x ≡ false → T (lt x (fin false 1 (pos 64)))
-unfolding lt of_bits is_nan
-cut_high x h g = so (lt_trans x f255 (fin false 1 (pos 64)) (lt_of_not x f255 (le_right f1 x h) refl g) refl)
 
 -- ---- the cast capped at 7, by way of a float from 0 to 7
 -- 7.0

@@ -10,6 +10,7 @@ use lib.Arith.{digits_lt}
 use lib.ListN.{length, drop, get_or, drop_of_length-le}
 use lib.Seq.{drop-cons}
 use lib.Pow.{field, mod-mod-pow, mod-pow-add, pow-add, pow_mono, pow_pos, shr-shr}
+use Rattle.std.specs.Int.{w32, w64, from_le_bytes}
 use Rattle.index_list.specs.Indexes.{index_at, set_at, filled_to}
 use Rattle.index_list.specs.Layout.{byte_at, packed, bytes_of, from_bytes}
 
@@ -116,11 +117,12 @@ from_none : (bs : List ℕ) (k : ℕ) → length bs ≤ k → from_bytes (drop k
 unfolding from_bytes
 from_none bs k h = rw (drop_of_length-le bs h)
 
--- in two halves of four
-pub from_eight : (bs : List ℕ) → length bs ≡ 8
-    → from_bytes bs ≡ get_or bs 0 0 + 2 ^ 8 * (get_or bs 1 0 + 2 ^ 8 * (get_or bs 2 0 + 2 ^ 8 * get_or bs 3 0))
-    + 2 ^ 32 * (get_or bs 4 0 + 2 ^ 8 * (get_or bs 5 0 + 2 ^ 8 * (get_or bs 6 0 + 2 ^ 8 * get_or bs 7 0)))
-from_eight bs e =
+-- four and eight bytes as std reads them
+pub four_read : (bs : List ℕ) → length bs ≡ 4 → from_le_bytes w32 bs ≡ from_bytes bs
+four_read bs e = omega (arith, from_byte bs 0 (omega arith), from_byte bs 1 (omega arith), from_byte bs 2 (omega arith), from_byte bs 3 (omega arith), from_none bs 4 (omega arith))
+
+pub eight_read : (bs : List ℕ) → length bs ≡ 8 → from_le_bytes w64 bs ≡ from_bytes bs
+eight_read bs e =
     omega (
       arith,
       from_byte bs 0 (omega arith),

@@ -63,22 +63,7 @@ pub fn packed(c0: u8, c1: u8, indexes: IndexList) -> u64
 pub fn bytes(block: u64) -> [u8; 8]
     ensures { result ≡ bytes_of block }
 {
-    [
-        (block % 256) as u8,
-        ((block >> 8) % 256) as u8,
-        ((block >> 16) % 256) as u8,
-        ((block >> 24) % 256) as u8,
-        ((block >> 32) % 256) as u8,
-        ((block >> 40) % 256) as u8,
-        ((block >> 48) % 256) as u8,
-        ((block >> 56) % 256) as u8,
-    ]
-}
-
-fn wide(x: u8) -> u64
-    ensures { (result ≡ x) × (result < 256) }
-{
-    x as u64
+    block.to_le_bytes()
 }
 
 // The number of eight bytes in order.
@@ -86,7 +71,5 @@ pub fn from_bytes(b: &[u8]) -> u64
     requires { length b.now ≡ 8 }
     ensures { result ≡ from_bytes b.now }
 {
-    let low = wide(b[0]) + 256 * (wide(b[1]) + 256 * (wide(b[2]) + 256 * wide(b[3])));
-    let high = wide(b[4]) + 256 * (wide(b[5]) + 256 * (wide(b[6]) + 256 * wide(b[7])));
-    low + 4294967296 * high
+    u64::from_le_bytes(*b.first_chunk().unwrap())
 }

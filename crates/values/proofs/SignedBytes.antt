@@ -1,23 +1,8 @@
--- Signed bytes: the code's steps to one, and their order, which for the bytes of levels is the levels' order.
-use Rattle.std.proofs.Common.{◌≡◌, ℕ, zero, suc, ◌+◌, ◌-◌, ◌%◌, ◌<◌, ◌≤◌, Bool, true, false, cond, not, T, ltb, ℤ, pos, negsuc, ◌-ℤ◌, sym, refl, ap, ◌∙◌, arith, ltb→lt, lt→ltb, nltb→le, w8, SFits, to_z, ltb-true, le-ltb, lt-ltb}
+-- Signed bytes: their order, which for the bytes of levels is the levels' order.
+use Rattle.std.proofs.Common.{◌≡◌, ℕ, ◌+◌, ◌-◌, ◌%◌, ◌<◌, ◌≤◌, Bool, true, false, cond, not, T, ltb, pos, negsuc, sym, ◌∙◌, arith, ltb→lt, lt→ltb, nltb→le, ltb-true, le-ltb, lt-ltb}
 use lib.Signed.{lt_z}
-use mir.ValLaws.{to_z_pos}
 use Rattle.floats.proofs.Tests.{iff}
 use Rattle.values.specs.Values.{steps, from_norm, level_byte, signed_of, byte_below}
-
-pub signed_low : (b : ℕ) → b < 128 → signed_of b ≡ pos b
-signed_low b h = simp (lt-ltb b 128 h)
-
-pub signed_high : (b : ℕ) → 128 ≤ b → signed_of b ≡ negsuc (255 - b)
-signed_high b h = simp (le-ltb b 128 h)
-
--- the code's -1 - (255 - b)
-minus_one : (n : ℕ) → negsuc 0 -ℤ pos n ≡ negsuc n
-minus_one zero = refl
-minus_one (suc n) = ap (λ (k : ℕ). negsuc (suc k)) (omega arith)
-
-pub high_steps : (b : ℕ) → 128 ≤ b → negsuc 0 -ℤ to_z w8 (255 - b) ≡ negsuc (255 - b)
-high_steps b h = ap (λ (z : ℤ). negsuc 0 -ℤ z) (to_z_pos w8 (255 - b) (omega arith)) ∙ minus_one (255 - b)
 
 -- the test b < 128 with what it says, either way
 data Half (b : ℕ) : Bool → Type 0 where
@@ -30,13 +15,6 @@ half b = go (ltb b 128) (ltb→lt b 128) (nltb→le b 128)
     go : (t : Bool) → (T t → b < 128) → (T (not t) → 128 ≤ b) → Half b t
     go true k l = low (k tt)
     go false k l = high (l tt)
-
-pub signed_fits : (b : ℕ) → b < 256 → SFits w8 (signed_of b)
-signed_fits b B = go (ltb b 128) (half b)
-  where
-    go : (t : Bool) → Half b t → SFits w8 (cond t (pos b) (negsuc (255 - b)))
-    go true (low h) = record { sfits = h }
-    go false (high h) = record { sfits = omega arith }
 
 same_tests : (a b c d : ℕ) → (a < b → c < d) → (c < d → a < b) → ltb a b ≡ ltb c d
 same_tests a b c d f g = iff _ _ (λ t. lt→ltb c d (f (ltb→lt a b t))) (λ t. lt→ltb a b (g (ltb→lt c d t)))

@@ -9,8 +9,7 @@ const K1: f32 = 1.0 / (254.0 * K0);
 pub fn norm(x: u8) -> u8
     ensures { result ≡ norm_of x }
 {
-    let y = std::num::wrapping_add_u8(x, 128);
-    if y == 0 { 0 } else { y - 1 }
+    x.wrapping_add(128).saturating_sub(1)
 }
 
 // The end of uf32, which has a level already.
@@ -32,15 +31,12 @@ pub fn from_norm(x: u8) -> u8
     requires { x ≤ 254 }
     ensures { result ≡ from_norm x }
 {
-    std::num::wrapping_sub_u8(x + 1, 128)
+    (x + 1).wrapping_sub(128)
 }
 
 // Rust's `x as i8`.
 pub fn as_i8(x: u8) -> i8
     ensures { result ≡ signed_of x }
 {
-    if x < 128 {
-        return x as i8;
-    }
-    -1 - ((255 - x) as i8)
+    x.cast_signed()
 }
