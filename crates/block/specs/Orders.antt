@@ -19,6 +19,10 @@ down_lane op g j = op (op (op (g j) (g (j + 4))) (g (j + 8))) (g (j + 12))
 abbrev pub down_from : {A : Type 0} → (A → A → A) → A → (ℕ → A) → ℕ → A
 down_from op a g j = op (op (op (op a (g j)) (g (j + 4))) (g (j + 8))) (g (j + 12))
 
+-- both: what stands in the first row, and then the three rows below it
+abbrev pub below_first : {A : Type 0} → (A → A → A) → A → (ℕ → A) → ℕ → A
+below_first op first g j = op (op (op first (g (j + 4))) (g (j + 8))) (g (j + 12))
+
 -- Vec4::min_element and max_element: x against (y against (z against w))
 unfoldable pub element : (Float → Float → Float) → (ℕ → Float) → Float
 element op lane = op (lane 0) (op (lane 1) (op (lane 2) (lane 3)))

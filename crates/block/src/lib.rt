@@ -1,22 +1,19 @@
 // bc4.rs: Block. The Rust's four Vec4 are sixteen floats here, pixel i in lane i % 4: a loop over them vectorises.
 #![tactic(auto)]
 
-ghost use Rattle.std.specs.Prelude.{◌≡◌, ◌<◌};
+ghost use Rattle.std.specs.Prelude.{◌≡◌, ◌<◌, Float};
+ghost use Rattle.floats.specs.declared.Pair.{Pair};
 ghost use Rattle.floats.specs.Arithmetic.{◌⊕◌, squared, f0, f1};
 ghost use Rattle.block.specs.Samples.{pixel_at};
-ghost use Rattle.block.specs.Orders.{down_lane, down_from, sum_in_order, sum_in_pairs, row_dot, sum_of_squares};
-ghost use Rattle.block.specs.Block.{entered, min_max, min_max_with_threshold, mean as mean_of, spanned as spanned_of, alone, counted};
+ghost use Rattle.block.specs.Orders.{down_lane, down_from, below_first, lane_sum, sum_in_order, sum_in_pairs, row_dot, sum_of_squares};
+ghost use Rattle.block.specs.Block.{entered, min_max, min_max_with_threshold, mean as mean_of, spanned as spanned_of, alone as alone_of, counted as counted_of};
 
 use floats::Pair;
 
 pub fn from_raw(samples: &[f32; 16]) -> [f32; 16]
     ensures { result ≡ entered samples.now }
 {
-    let mut clamped = [0.0f32; 16];
-    for i in 0..16usize {
-        clamped[i] = floats::entry_clamp(samples[i]);
-    }
-    clamped
+    std::array::from_fn(|i| floats::entry_clamp(samples[i]))
 }
 
 // ---- smallest and largest, as a pair; two pairs are spanned by one
@@ -29,26 +26,35 @@ fn spanned(a: Pair, b: Pair) -> Pair
     Pair(floats::lane_min(a.0, b.0), largest)
 }
 
+fn alone(x: f32) -> Pair
+    ensures { result ≡ alone_of x }
+{
+    Pair(x, x)
+}
+
 fn across(x: Pair, y: Pair, z: Pair, w: Pair) -> Pair
     ensures { result ≡ spanned_of x (spanned_of y (spanned_of z w)) }
 {
     spanned(x, spanned(y, spanned(z, w)))
 }
 
-fn down(x: f32, y: f32, z: f32, w: f32) -> Pair
-    ensures { result ≡ spanned_of (spanned_of (spanned_of (alone x) (alone y)) (alone z)) (alone w) }
+// From what stands in lane j's first row down its three others, each sample taken for what it counts as.
+fn down<F: Fn(f32) -> Pair>(first: Pair, b: &[f32; 16], j: usize, counts: F) -> Pair
+    requires inside { j < 4 }
+    requires callable { F.IsAlwaysCallable counts }
+    ensures { (g : Float → Pair) → ((x : Float) (r : Pair) → F.post counts x r → r ≡ g x) → result ≡ below_first spanned_of first (λ i. g (pixel_at b.now i)) j }
 {
     spanned(
-        spanned(spanned(Pair(x, x), Pair(y, y)), Pair(z, z)),
-        Pair(w, w),
+        spanned(spanned(first, counts(b[j + 4])), counts(b[j + 8])),
+        counts(b[j + 12]),
     )
 }
 
 fn lane(b: &[f32; 16], j: usize) -> Pair
     requires { j < 4 }
-    ensures { result ≡ down_lane spanned_of (λ i. alone (pixel_at b.now i)) j }
+    ensures { result ≡ down_lane spanned_of (λ i. alone_of (pixel_at b.now i)) j }
 {
-    down(b[j], b[j + 4], b[j + 8], b[j + 12])
+    down(alone(b[j]), b, j, |x| alone(x))
 }
 
 pub fn min_max(b: &[f32; 16]) -> Pair
@@ -59,30 +65,21 @@ pub fn min_max(b: &[f32; 16]) -> Pair
 
 // ---- with a threshold
 
-fn step(threshold: f32, m: Pair, x: f32) -> Pair
-    ensures { result ≡ spanned_of m (counted threshold x) }
+fn counted(threshold: f32, x: f32) -> Pair
+    ensures { result ≡ counted_of threshold x }
 {
-    spanned(
-        m,
-        Pair(
-            floats::pick(x >= threshold, x, 1.0),
-            floats::pick(x <= 1.0 - threshold, x, 0.0),
-        ),
+    Pair(
+        floats::pick(x >= threshold, x, 1.0),
+        floats::pick(x <= 1.0 - threshold, x, 0.0),
     )
-}
-
-fn down_within(threshold: f32, x: f32, y: f32, z: f32, w: f32) -> Pair
-    ensures { let c = counted threshold in result ≡ spanned_of (spanned_of (spanned_of (spanned_of (record { 0 = f1; 1 = f0 }) (c x)) (c y)) (c z)) (c w) }
-{
-    let upper = step(threshold, step(threshold, Pair(1.0, 0.0), x), y);
-    step(threshold, step(threshold, upper, z), w)
 }
 
 fn lane_within(b: &[f32; 16], threshold: f32, j: usize) -> Pair
     requires { j < 4 }
-    ensures { result ≡ down_from spanned_of (record { 0 = f1; 1 = f0 }) (λ i. counted threshold (pixel_at b.now i)) j }
+    ensures { result ≡ down_from spanned_of (record { 0 = f1; 1 = f0 }) (λ i. counted_of threshold (pixel_at b.now i)) j }
 {
-    down_within(threshold, b[j], b[j + 4], b[j + 8], b[j + 12])
+    let first = spanned(Pair(1.0, 0.0), counted(threshold, b[j]));
+    down(first, b, j, |x| counted(threshold, x))
 }
 
 // Of the values in [threshold, 1 - threshold].
@@ -99,24 +96,23 @@ pub fn min_max_with_threshold(b: &[f32; 16], threshold: f32) -> Pair
 
 // ---- sums
 
+fn lane_sum(e: &[f32; 16], j: usize) -> f32
+    requires { j < 4 }
+    ensures { result ≡ lane_sum e.now j }
+{
+    e[j] + e[j + 4] + e[j + 8] + e[j + 12]
+}
+
 pub fn sum_in_order(e: &[f32; 16]) -> f32
     ensures { result ≡ sum_in_order e.now }
 {
-    let x = e[0] + e[4] + e[8] + e[12];
-    let y = e[1] + e[5] + e[9] + e[13];
-    let z = e[2] + e[6] + e[10] + e[14];
-    let w = e[3] + e[7] + e[11] + e[15];
-    x + y + z + w
+    lane_sum(e, 0) + lane_sum(e, 1) + lane_sum(e, 2) + lane_sum(e, 3)
 }
 
 pub fn sum_in_pairs(e: &[f32; 16]) -> f32
     ensures { result ≡ sum_in_pairs e.now }
 {
-    let x = e[0] + e[4] + e[8] + e[12];
-    let y = e[1] + e[5] + e[9] + e[13];
-    let z = e[2] + e[6] + e[10] + e[14];
-    let w = e[3] + e[7] + e[11] + e[15];
-    (x + y) + (z + w)
+    (lane_sum(e, 0) + lane_sum(e, 1)) + (lane_sum(e, 2) + lane_sum(e, 3))
 }
 
 fn four_squares(x: f32, y: f32, z: f32, w: f32) -> f32
