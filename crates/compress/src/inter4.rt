@@ -1,8 +1,8 @@
 // compress_inter4 with inter4_reassign_defaults.
 ghost use Rattle.std.specs.Prelude.{◌≡◌, ◌<◌};
-ghost use Rattle.compress.specs.Network.{InOrder};
 ghost use Rattle.compress.specs.Inter4.{far as far_of, upward as upward_of, candidate as candidate_of, walked as walked_of, reassigned, first_ends, compress_inter4};
 
+use crate::sorted::Sorted;
 use coding::Coded;
 use end_points::EndPoints;
 use floats::Pair;
@@ -28,40 +28,40 @@ fn upward(h: Held) -> bool
     h.min < 1.0 - h.max
 }
 
-fn candidate(b: &[f32; 16], s: &[f32; 16], h: Held, low: u32, high: u32) -> Held
-    requires { InOrder b.now s.now × (low < high) × (high < 16) }
-    ensures { result ≡ candidate_of b.now h low high }
-{
-    if upward(h) {
-        return refine::rounds::hold(Kind::Four, b, crate::sorted::placed(b, s, low + 1), h.max);
+impl Sorted<'_> {
+    fn candidate(&self, h: Held, low: u32, high: u32) -> Held
+        requires { (low < high) × (high < 16) }
+        ensures { result ≡ candidate_of self.now.block.now h low high }
+    {
+        if upward(h) {
+            return refine::rounds::hold(Kind::Four, self.block, self.placed(low + 1), h.max);
+        }
+        refine::rounds::hold(Kind::Four, self.block, h.min, self.placed(high - 1))
     }
-    refine::rounds::hold(Kind::Four, b, h.min, crate::sorted::placed(b, s, high - 1))
-}
 
-// The Rust remembers the side of a move that failed and stops when that side is next again. It always is: nothing has changed by then.
-fn walked(b: &[f32; 16], s: &[f32; 16], start: Held, from: u32, to: u32) -> Held
-    requires { InOrder b.now s.now × (to < 16) }
-    ensures { result ≡ walked_of b.now 4 start from to }
-{
-    let mut h = start;
-    let mut low = from;
-    let mut high = to;
-    let mut left = 4u8;
-    while left > 0 {
-        if high <= low {
-            return h;
+    // The Rust remembers the side of a move that failed and stops when that side is next again. It always is: nothing has changed by then.
+    fn walked(&self, start: Held, from: u32, to: u32) -> Held
+        requires { to < 16 }
+        ensures { result ≡ walked_of self.now.block.now 4 start from to }
+    {
+        let mut h = start;
+        let mut low = from;
+        let mut high = to;
+        for _ in 0..4u8 {
+            if high <= low {
+                return h;
+            }
+            let t = self.candidate(h, low, high);
+            if !(t.error < h.error) {
+                return h;
+            }
+            let up = floats::one_if(upward(h));
+            low += up;
+            high -= 1 - up;
+            h = t;
         }
-        let t = candidate(b, s, h, low, high);
-        if !(t.error < h.error) {
-            return h;
-        }
-        let up = floats::one_if(upward(h));
-        low += up;
-        high -= 1 - up;
-        h = t;
-        left -= 1;
+        h
     }
-    h
 }
 
 fn inter4_reassign_defaults(b: &[f32; 16], p: Pair) -> Pair
@@ -73,8 +73,11 @@ fn inter4_reassign_defaults(b: &[f32; 16], p: Pair) -> Pair
     let start = refine::rounds::hold(Kind::Four, b, p.0, p.1);
     let from = crate::sorted::place_of(b, p.0);
     let to = crate::sorted::place_of(b, p.1);
-    let s = crate::network::sorted(b);
-    let h = walked(b, &s, start, from, to);
+    let sorted = Sorted {
+        block: b,
+        samples: &crate::network::sorted(b),
+    };
+    let h = sorted.walked(start, from, to);
     Pair(h.min, h.max)
 }
 

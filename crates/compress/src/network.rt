@@ -2,6 +2,8 @@
 ghost use Rattle.std.specs.Prelude.{◌≡◌, ℕ, ◌≤◌, ◌<◌, T};
 ghost use Rattle.std.specs.Float.{binary32};
 ghost use Rattle.std.specs.Float.Ieee.{fits};
+ghost use Rattle.floats.specs.Arithmetic.{f2};
+ghost use Rattle.floats.specs.Helpers.{lane_min as lane_min_of};
 ghost use Rattle.block.specs.Samples.{pixel_at};
 ghost use Rattle.compress.specs.Network.{smaller_first, stepped, run, pass as pass_of, capped as capped_of, InOrder};
 
@@ -35,17 +37,19 @@ fn capped(b: &[f32; 16]) -> [f32; 16]
     ensures value { result ≡ capped_of b.now }
     ensures fit { (i : ℕ) → i < 16 → T (fits binary32 (pixel_at result i)) }
 {
-    let mut s = [1.0f32; 16];
-    for i in 0..16usize {
-        s[i] = floats::lane_min(b[i], 2.0);
-    }
-    s
+    std::array::from_fn(
+        |i| -> f32
+            requires { i < 16 }
+            ensures { (result ≡ lane_min_of (pixel_at b.entry.now i) f2) × T (fits binary32 result) }
+        { floats::lane_min(b[i], 2.0) },
+    )
 }
 
 pub fn sorted(b: &[f32; 16]) -> [f32; 16]
     ensures { InOrder b.now result }
 {
     let mut s = capped(b);
+    // A `for` over a table of these is not laid out: with it the four-value walk takes 2 % more instructions.
     pass(&mut s, 8, 0, 8);
     pass(&mut s, 4, 0, 4);
     pass(&mut s, 4, 1, 4);

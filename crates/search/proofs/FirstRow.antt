@@ -2,18 +2,19 @@
 use mathlib.Core.Path.{◌≡◌, refl, sym, ◌∙◌, subst}
 use mathlib.Core.Logic.{◌⊎◌, inl, inr, ⊎_elim, dite}
 use mathlib.Core.Bool.{Bool, true, false, cond, ◌||◌}
-use mathlib.Core.List.{List}
+use mathlib.Core.List.{List, ◌++◌}
 use Prim.Native.Nat.{ℕ, ◌+◌, ◌<◌, ◌≤◌}
 use native.Mathlib.Decide.{ℕ_discrete}
 use native.Mathlib.Omega.{arith}
-use lib.ListN.{get_or, set, length-set}
+use lib.ListN.{length, get_or, set, take, drop, length-set, length-append, get_or-append}
 use lib.Seq.{get_or-set_same, get_or-set_other}
 use lib.Ieee.{Float, nan, lt, ne}
 use Rattle.floats.specs.Helpers.{lane_max}
 use Rattle.floats.proofs.Tests.{clash, either}
 use Rattle.floats.proofs.Order.{lt_trans, lt_cotrans, lt_right, ne_self}
 use Rattle.values.specs.Values.{value_of}
-use Rattle.block.proofs.Fill.{Filled, length_tabulate, get_d_tabulate}
+use Rattle.std.proofs.lemmas.List.{length-drop, length-take-le, get_or-take, get_or-drop}
+use Rattle.block.proofs.Fill.{length_tabulate, get_d_tabulate}
 use Rattle.end_points.specs.EndPoints.{of_bytes}
 use Rattle.palette.specs.declared.Kind.{Kind}
 use Rattle.palette.specs.declared.Kind.TheVariants.{Six, Four}
@@ -56,11 +57,17 @@ module _ (b : List Float) (min : ℕ) where
     each = λ max h l kind. rw get_d_tabulate (max_floor_lem b min max h (omega arith) kind);
   }
 
-  pub part_start : (at n : ℕ) (out : List Float) → at + n ≤ 256 → Filled nan (λ i. get_or (max_floors b) (at + i) nan) 32 out n → PartFloors b min at n out
-  part_start at n out l o = record {
-    size = o.size;
-    each = λ i h k kind. rw (o.done i h) (floors_start.each (at + i) k (omega arith) kind);
+  -- n of them from `at` on, at the start of an array of 32
+  pub part_start : (at n : ℕ) (rest : List Float) → at + n ≤ 256 → n ≤ 32 → length rest ≡ 32 → PartFloors b min at n (take n (drop at (max_floors b)) ++ drop n rest)
+  part_start at n rest l m e = record {
+    size = simp (length-append, length-drop, part) (omega arith);
+    each = λ i h k kind.
+        rw (get_or-append (take n (drop at (max_floors b))) (drop n rest) nan i (omega (arith, part)), get_or-take n (drop at (max_floors b)) i nan h, get_or-drop at (max_floors b) i nan)
+        (floors_start.each (at + i) k (omega arith) kind);
   }
+    where
+      part : length (take n (drop at (max_floors b))) ≡ n
+      part = length-take-le n (drop at (max_floors b)) (omega (arith, length-drop at (max_floors b), floors_start.size))
 
   pub part_raised : (at n : ℕ) (out : List Float) (i : ℕ) (v : Float) → PartFloors b min at n out → i < n → i < 32
       → v ≡ lane_max (get_or out i nan) (row_floor b (value_of min false) (value_of (at + i) false)) → PartFloors b min at n (set out i v)

@@ -55,3 +55,7 @@ pub record Floors (b : List Float) (min : ℕ) (floors : List Float) : Type 0 wh
 pub record PartFloors (b : List Float) (min at n : ℕ) (floors : List Float) : Type 0 where
   pub size : length floors ≡ 32
   pub each : (i : ℕ) → i < n → min < at + i → (kind : Kind) → lt (pair_error kind b min (at + i)) (get_or floors i nan) ≡ false
+
+-- of as many values of max as there are floors, from `at` on, a floor for each pair with this min
+pub record FloorsFrom (b : List Float) (min at : ℕ) (floors : List Float) : Type 0 where
+  pub each : (i : ℕ) → i < length floors → (kind : Kind) → lt (pair_error kind b min (at + i)) (get_or floors i nan) ≡ false

@@ -1,5 +1,5 @@
 // Floors of palette errors, by which the search passes pairs over that cannot be the answer.
-ghost use Rattle.std.specs.Prelude.{◌≡◌, ◌+◌, ◌≤◌, length};
+ghost use Rattle.std.specs.Prelude.{◌≡◌, ◌+◌, ◌<◌, ◌≤◌, length};
 ghost use Rattle.search.specs.Floor.{beyond as beyond_of, at_least, floor_of, min_floor, max_floor, max_floors, row_floor, PartFloors};
 
 use palette::Kind;
@@ -28,42 +28,35 @@ fn at_least(d: f32, pixel: f32) -> f32
 fn sum(b: &[f32; 16], low: f32, high: f32) -> f32
     ensures { result ≡ floor_of b.now low high }
 {
-    let mut terms = [0.0f32; 16];
-    for i in 0..16usize {
-        terms[i] = at_least(beyond(low, high, b[i]), b[i]);
-    }
-    block::sum_in_order(&terms)
+    // By `b.map` this takes 56 instructions more.
+    block::sum_in_order(&std::array::from_fn(
+        |i|
+            requires { i < 16 }
+        { at_least(beyond(low, high, b[i]), b[i]) },
+    ))
 }
 
 pub fn min_floor(b: &[f32; 16], min: u8) -> f32
     ensures { result ≡ min_floor b.now min }
 {
-    sum(
-        b,
-        values::n8::f32(min) - MARGIN,
-        f32::from_bits(0x7f80_0000),
-    )
+    sum(b, values::n8::f32(min) - MARGIN, f32::INFINITY)
 }
 
 fn max_floor(b: &[f32; 16], max: u8) -> f32
     ensures { result ≡ max_floor b.now max }
 {
-    sum(
-        b,
-        f32::from_bits(0xff80_0000),
-        values::n8::f32(max) + MARGIN,
-    )
+    sum(b, f32::NEG_INFINITY, values::n8::f32(max) + MARGIN)
 }
 
 // Worked out once: each min asks for them again.
 pub fn max_floors(b: &[f32; 16]) -> [f32; 256]
     ensures { result ≡ max_floors b.now }
 {
-    let mut floors = [0.0f32; 256];
-    for max in 0..256usize {
-        floors[max] = max_floor(b, max as u8);
-    }
-    floors
+    std::array::from_fn(
+        |max|
+            requires { max < 256 }
+        { max_floor(b, max as u8) },
+    )
 }
 
 // A NaN is handed on: it is above nothing, and so passes nothing over.
@@ -79,28 +72,37 @@ fn row_floor(b: &[f32; 16], low: f32, high: f32) -> f32
 fn first_open(floors: &[f32], held: f32) -> usize
     ensures { result ≤ length floors.now }
 {
-    for i in 0..floors.len() {
-        if floors[i] < held {
-            return i;
-        }
-    }
-    floors.len()
+    floors
+        .iter()
+        .position(|floor| *floor < held)
+        .unwrap_or(floors.len())
 }
 
-// For the pairs of one min with n values of max, from `at` on: the floors of these, raised by what their first row adds. A part at a time: a copy of all
-// floors would take a fourth of the stack of a call.
-pub fn raised(b: &[f32; 16], floors: &[f32; 256], held: f32, min: u8, at: u32, n: u32) -> [f32; 32]
-    requires { (floors.now ≡ max_floors b.now) × (at + n ≤ 256) × (n ≤ 32) }
-    ensures { PartFloors b.now min at n result }
-{
-    let mut raised = [0.0f32; 32];
-    for i in 0..n as usize {
-        raised[i] = floors[at as usize + i];
+// How many values of max are tried at a time: a copy of all floors would take a fourth of the stack of a call.
+pub const PART: usize = 32;
+
+// A block with the floors of its values of max.
+#[derive(Drop)]
+pub struct MaxFloors<'a> {
+    pub block: &'a [f32; 16],
+    pub floors: &'a [f32; 256],
+    ghost of_block: { floors.now ≡ max_floors block.now },
+}
+
+impl MaxFloors<'_> {
+    // For the pairs of one min with n values of max, from `at` on: the floors of these, raised by what their first row adds.
+    pub fn raised(&self, held: f32, min: u8, at: usize, n: usize) -> [f32; PART]
+        requires { (at + n ≤ 256) × (n ≤ 32) }
+        ensures { PartFloors self.now.block.now min at n result }
+    {
+        let all = self.floors;
+        let mut raised = [0.0f32; PART];
+        raised[..n].copy_from_slice(&all[at..at + n]);
+        let low = values::n8::f32(min);
+        for i in first_open(&raised[..n], held)..n {
+            let high = values::n8::f32((at + i) as u8);
+            raised[i] = floats::lane_max(raised[i], row_floor(self.block, low, high));
+        }
+        raised
     }
-    let low = values::n8::f32(min);
-    for i in first_open(&raised[..n as usize], held)..n as usize {
-        let high = values::n8::f32((at as usize + i) as u8);
-        raised[i] = floats::lane_max(raised[i], row_floor(b, low, high));
-    }
-    raised
 }

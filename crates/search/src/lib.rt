@@ -1,13 +1,13 @@
 // reference_brute_force. Pairs that cannot be below what is held are passed over, by floors of their errors: the answer is that of all pairs tried.
 #![tactic(auto)]
 
-ghost use Rattle.std.specs.Prelude.{◌≡◌, ◌⊎◌, true, false, ◌<◌, ◌≤◌, ◌+◌, ◌-◌};
+ghost use Rattle.std.specs.Prelude.{◌≡◌, ◌⊎◌, true, false, ◌<◌, ◌≤◌, ◌+◌, ◌-◌, length};
 ghost use Rattle.std.specs.Float.{inf};
 ghost use Rattle.std.specs.Float.Ieee.{lt};
 ghost use Rattle.palette.specs.declared.Kind.{Kind as KindOf};
 ghost use Rattle.palette.specs.declared.Kind.TheVariants.{Six};
 ghost use Rattle.search.specs.Covered.{pair_error};
-ghost use Rattle.search.specs.Floor.{max_floors, PartFloors};
+ghost use Rattle.search.specs.Floor.{FloorsFrom};
 ghost use Rattle.search.specs.Search.{mode_tried, pair_tried, maxes_tried, mins_tried, first_max, searched};
 
 mod floor;
@@ -15,6 +15,7 @@ mod floor;
 use coding::Coded;
 use end_points::EndPoints;
 use floats::Pair;
+use floor::{MaxFloors, PART};
 use palette::Kind;
 
 fn mode_tried(kind: Kind, b: &[f32; 16], best: Coded, e: EndPoints) -> Coded
@@ -25,7 +26,7 @@ fn mode_tried(kind: Kind, b: &[f32; 16], best: Coded, e: EndPoints) -> Coded
         let found = coding::ended(kind, b, false, e);
         return Coded {
             bytes: found.bytes,
-            error: error,
+            error,
         };
     }
     best
@@ -44,66 +45,53 @@ fn pair_tried(b: &[f32; 16], floor: f32, best: Coded, min: u8, max: u8) -> Coded
     mode_tried(Kind::Four, b, six, e.inter6_to_inter4())
 }
 
-fn maxes_tried(b: &[f32; 16], floors: &[f32; 32], start: Coded, min: u8, at: u32, n: u32) -> Coded
-    requires { PartFloors b.now min at n floors.now × (min < at) × (at + n ≤ 256) × (n ≤ 32) }
-    ensures { result ≡ maxes_tried b.now start min at n }
+fn maxes_tried(b: &[f32; 16], floors: &[f32], start: Coded, min: u8, at: usize) -> Coded
+    requires { FloorsFrom b.now min at floors.now × (at + length floors.now ≤ 256) }
+    ensures { result ≡ maxes_tried b.now start min at (length floors.now) }
 {
     let mut best = start;
-    for i in 0..n {
-        let floor = floors[i as usize];
-        best = pair_tried(b, floor, best, min, (at + i) as u8);
+    for (i, floor) in floors.iter().enumerate() {
+        best = pair_tried(b, *floor, best, min, (at + i) as u8);
     }
     best
 }
 
-// How many values of max are tried next, from `at` on.
-fn next(at: u32) -> u32
-    requires { at < 256 }
-    ensures { (0 < result) × (result ≤ 32) × (at + result ≤ 256) }
-{
-    if at < 224 {
-        return 32;
-    }
-    256 - at
-}
-
-fn min_tried(b: &[f32; 16], floors: &[f32; 256], best: Coded, min: u8, first: u32) -> Coded
-    requires { (floors.now ≡ max_floors b.now) × (min < first) × (first ≤ 256) }
-    ensures { result ≡ maxes_tried b.now best min first (256 - first) }
-{
-    if floor::min_floor(b, min) >= best.error {
-        return best;
-    }
-    let mut held = best;
-    let mut at = first;
-    while at < 256 {
-        let n = next(at);
-        let raised = floor::raised(b, floors, held.error, min, at, n);
-        held = maxes_tried(b, &raised, held, min, at, n);
-        at += n;
-    }
-    held
-}
-
-fn first_max(least: u32, min: u32) -> u32
-    requires { (least < 256) × (min < 255) }
+fn first_max(least: u8, min: u8) -> usize
+    requires { min < 255 }
     ensures { (result ≡ first_max least min) × (min < result) × (result ≤ 256) }
 {
-    if least < min + 1 {
-        return min + 1;
-    }
-    least
+    (least as usize).max(min as usize + 1)
 }
 
-fn mins_tried(b: &[f32; 16], floors: &[f32; 256], least: u32, start: Coded, limit: u32) -> Coded
-    requires { (floors.now ≡ max_floors b.now) × (least < 256) × (limit < 256) }
-    ensures { result ≡ mins_tried b.now least start limit }
-{
-    let mut best = start;
-    for min in 0..limit {
-        best = min_tried(b, floors, best, min as u8, first_max(least, min));
+impl MaxFloors<'_> {
+    fn min_tried(&self, best: Coded, min: u8, first: usize) -> Coded
+        requires { (min < first) × (first ≤ 256) }
+        ensures { result ≡ maxes_tried self.now.block.now best min first (256 - first) }
+    {
+        if floor::min_floor(self.block, min) >= best.error {
+            return best;
+        }
+        let mut held = best;
+        // By `step_by` or `chunks` the search takes 2 % more instructions.
+        let mut at = first;
+        while at < 256 {
+            let n = PART.min(256 - at);
+            let raised = self.raised(held.error, min, at, n);
+            held = maxes_tried(self.block, &raised[..n], held, min, at);
+            at += n;
+        }
+        held
     }
-    best
+
+    fn mins_tried(&self, least: u8, start: Coded, limit: u8) -> Coded
+        ensures { result ≡ mins_tried self.now.block.now least start limit }
+    {
+        let mut best = start;
+        for min in 0..limit {
+            best = self.min_tried(best, min, first_max(least, min));
+        }
+        best
+    }
 }
 
 // What the search starts from: just above the error of one pair that it tries, about as wide as the samples. A start at infinity leads to the same
@@ -114,12 +102,10 @@ fn start_error(b: &[f32; 16], min: u8, max: u8) -> f32
     let e = EndPoints::new_inter6_unorm(max, min);
     let error = palette::palette_error(Kind::Six, b, e.c0_f, e.c1_f);
     let above = error * 1.0001 + 0.0000000001;
-    if min < max {
-        if error < above {
-            return above;
-        }
+    if min < max && error < above {
+        return above;
     }
-    f32::from_bits(0x7f80_0000)
+    f32::INFINITY
 }
 
 pub fn reference_brute_force(b: &[f32; 16], p: Pair) -> u64
@@ -131,6 +117,9 @@ pub fn reference_brute_force(b: &[f32; 16], p: Pair) -> u64
         bytes: 0,
         error: start_error(b, least, limit),
     };
-    let floors = floor::max_floors(b);
-    mins_tried(b, &floors, least as u32, start, limit as u32).bytes
+    let floors = MaxFloors {
+        block: b,
+        floors: &floor::max_floors(b),
+    };
+    floors.mins_tried(least, start, limit).bytes
 }

@@ -8,9 +8,7 @@ unfolding reassigned
 returns-then-far c = rw (← c.far.ensures, c.if-far.true)
 
 pub walked-h-requires : goal.walked-h-requires
-walked-h-requires c =
-    let a = c.args in
-    (c.sorted-s.ensures, rw c.place_of-to.ensures (omega (arith, count_le a.b.now a.p.1 16)))
+walked-h-requires c = rw c.place_of-to.ensures (omega (arith, count_le c.args.b.now c.args.p.1 16))
 
 pub returns : goal.returns
 unfolding reassigned

@@ -1,5 +1,5 @@
 use Rattle.compress.specs.Inter4.{candidate}
-use Rattle.compress.proofs.inter4.candidate.Goals as goal
+use Rattle.compress.proofs.sorted.Sorted.candidate.Goals as goal
 
 pub returns-then-upward : goal.returns-then-upward
 unfolding candidate
