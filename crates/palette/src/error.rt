@@ -32,6 +32,7 @@ fn miss(eight: [f32; 8], pixel: f32) -> f32
     nearer(e6, eight[7], pixel)
 }
 
+// A loop that counts: `map` was tried, and takes 5 % more instructions a block where ends are refined.
 pub fn sum(eight: [f32; 8], b: &[f32; 16]) -> f32
     ensures { result ≡ sum_in_order (per_pixel (λ i. miss_of eight (pixel_at b.now i))) }
 {

@@ -100,6 +100,7 @@ impl Palette for Inter4Palette {
         }
     }
 
+    // Two arrays, filled by a loop that counts: `map` to one of `Nearest` was tried, and takes 6 % more instructions a block with four values.
     fn block_closest(self, b: &[f32; 16]) -> Indexed {
         let mut chosen = [0u32; 16];
         let mut errors = [0.0f32; 16];

@@ -113,6 +113,7 @@ impl Inter6Palette {
         1.0 - floats::trunc(blend) * F1
     }
 
+    // A loop that counts: `map` was tried, and takes 7 instructions more a block.
     pub fn block_closest_weights(self, b: &[f32; 16]) -> [f32; 16]
         ensures { result ≡ weights self b.now }
     {
@@ -163,15 +164,16 @@ impl Palette for Inter6Palette {
     }
 
     fn closest(self, pixel: f32) -> Closest {
+        let k = self.blend7(pixel);
         let value = self.value(pixel);
         Closest {
-            index: INDEX_MAP[self.blend7(pixel) as usize],
+            index: INDEX_MAP[k as usize],
             value,
             error: floats::abs(pixel - value),
         }
     }
 
-    // Row by row, as the squares are summed: four rows at once need no exchange of lanes.
+    // Row by row, as the squares are summed: four rows at once need no exchange of lanes. Two arrays, and not one of rows, for the same lanes (docs/SPEED.md).
     fn block_closest(self, b: &[f32; 16]) -> Indexed {
         let mut codes = [0u32; 4];
         let mut sums = [0.0f32; 4];
