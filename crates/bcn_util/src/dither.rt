@@ -10,7 +10,8 @@ ghost use Rattle.bcn_util.specs.Dither.{block_dither};
 use index_list::IndexList;
 use palette::{Indexed, Palette};
 
-// A static, since a constant array that is read in a loop is built anew at each turn. In sixteenths, a row for each column and one for the last row: right, next left, next middle, next right.
+// In sixteenths, a row for each column and one for the last row: right, next left, next middle, next right. A static: a constant array that is read in a
+// loop is built anew at each turn.
 static WEIGHTS: [f32; 20] = [
     7.0 / 16.0,
     0.0,
@@ -56,7 +57,7 @@ fn part(row: usize, k: usize, error: f32) -> f32
 
 // The error map after pixel i was off by `error`.
 pub fn diffuse(m: &mut [f32; 16], i: usize, error: f32)
-    requires { (i < 16) }
+    requires { i < 16 }
     ensures { m.new ≡ diffused m.old i error }
 {
     let x = i % 4;

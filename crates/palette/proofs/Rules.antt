@@ -5,12 +5,11 @@ use mathlib.Core.List.{List}
 use Prim.Native.Nat.{ℕ, zero, suc, ◌*◌, ◌-◌, ◌<◌}
 use native.Mathlib.Omega.{arith}
 use lib.Dec.{T, ltb}
-use lib.Ieee.{Float, nan, inf, fin, binary32, up, down, round, neg, sum, add, sub, lt, le, fits, of_bits}
+use lib.Ieee.{Float, nan, inf, fin, binary32, up, down, round, neg, add, sub, lt, le, fits, of_bits}
 use lib.Ieee.Fits.{down_pos}
 use Rattle.std.proofs.Common.{ltb-true}
 use Rattle.floats.specs.Arithmetic.{◌⊖◌, squared, f0, half, f1}
 use Rattle.floats.specs.Helpers.{abs_of}
-use Rattle.floats.proofs.Tests.{so}
 use Rattle.floats.proofs.ExactResult.{gap, sign_of, sum_is, sub_at}
 use Rattle.floats.proofs.Exactly.{round_fixed}
 use Rattle.floats.proofs.Squares.{square_abs}
