@@ -7,7 +7,8 @@ use native.Mathlib.Numerals.{add-one}
 use native.Mathlib.Omega.{arith}
 use lib.ListN.{get_or}
 use lib.Dec.{T, ltb}
-use lib.Ieee.{Float, nan, of_bits, of_int, div}
+use lib.Ieee.{Float, nan, binary32, of_bits, of_int, div}
+use lib.Ieee.Fits.{add-fits}
 use Rattle.floats.specs.Arithmetic.{◌⊕◌, ◌⊖◌, ◌⊗◌, ◌⊘◌, squared, whole}
 use Rattle.floats.proofs.Table.{all, at, same, same→eq}
 use Rattle.block.specs.Samples.{pixel_at}
@@ -17,7 +18,7 @@ use Rattle.palette.specs.declared.Kind.{Kind}
 use Rattle.palette.specs.declared.Closest.{Closest}
 use Rattle.palette.specs.declared.Indexed.{Indexed}
 use Rattle.palette.specs.Closest.{closest_of}
-use Rattle.palette.proofs.Rules.{closest_lt}
+use Rattle.palette.proofs.Rules.{closest_lt, closest_squared}
 use Rattle.bcn_util.specs.Diffusion.{sixteenths, weights, given, diffused}
 use Rattle.bcn_util.specs.Dither.{dither_step, dither_to}
 
@@ -71,11 +72,14 @@ module _ {kind : Kind} {c0 c1 : Float} {b : List Float} {i : ℕ} {map : List Fl
       rw (r.done_is, indexes_filled (closest_of kind c0 c1) b i)
       (filled_unset (index_given (closest_of kind c0 c1) b) i (λ k h. closest_lt kind c0 c1 _) i (omega arith))
 
-  -- `error` is the answer's but for its sign
-  pub reached_step : (c : Closest) (error : Float) → c ≡ closest_of kind c0 c1 (pixel_at b i ⊕ pixel_at map i) → squared c.error ≡ squared error
-      → Reached kind c0 c1 b (i + 1) (diffused map i (pixel_at b i ⊕ pixel_at map i ⊖ c.value)) (record { indexes = record { «data» = set_at done.indexes.«data» i c.index }; error = done.error ⊕ squared error })
+  -- the error is taken with its sign
+  pub reached_step : let pixel = pixel_at b i ⊕ pixel_at map i in
+      let c = closest_of kind c0 c1 pixel in
+      Reached kind c0 c1 b (i + 1) (diffused map i (pixel ⊖ c.value)) (record { indexes = record { «data» = set_at done.indexes.«data» i c.index }; error = done.error ⊕ squared (pixel ⊖ c.value) })
   unfolding dither_to dither_step
-  reached_step c error e same = rw (add-one, ← same, e, r.map_is, r.done_is) (record { map_is = refl; done_is = refl })
+  reached_step =
+      let x = pixel_at b i ⊕ pixel_at map i in
+      rw (add-one, ← closest_squared kind c0 c1 x (add-fits binary32 (pixel_at b i) (pixel_at map i)), r.map_is, r.done_is) (record { map_is = refl; done_is = refl })
 
 -- ---- the table
 right : ℕ → Bool

@@ -8,12 +8,11 @@ ghost use Rattle.bcn_util.specs.Diffusion.{weights, given, diffused};
 ghost use Rattle.bcn_util.specs.Dither.{block_dither};
 
 use index_list::IndexList;
-use palette::inter4::Inter4Palette;
-use palette::inter6::Inter6Palette;
-use palette::{Indexed, Kind};
+use palette::{Indexed, Palette};
 
-// In sixteenths, a row for each column and one for the last row: right, next left, next middle, next right.
-pub const WEIGHTS: [f32; 20] = [
+// In sixteenths, a row for each column and one for the last row: right, next left, next middle, next right. A static: a constant array that is read in a
+// loop is built anew at each turn.
+static WEIGHTS: [f32; 20] = [
     7.0 / 16.0,
     0.0,
     6.0 / 16.0,
@@ -48,27 +47,28 @@ fn give(there: bool, m: &mut [f32; 16], i: usize, n: usize, v: f32)
 }
 
 // The part of an error by row and column of the table.
-fn part(w: &[f32; 20], row: usize, k: usize, error: f32) -> f32
+#[tactic(auto, unfolding(crate::specs::Diffusion::weights))]
+fn part(row: usize, k: usize, error: f32) -> f32
     requires { (row < 5) × (k < 4) }
-    ensures { result ≡ error ⊗ get_or w.now (4 * row + k) nan }
+    ensures { result ≡ error ⊗ get_or weights (4 * row + k) nan }
 {
-    error * w[4 * row + k]
+    error * WEIGHTS[4 * row + k]
 }
 
-// The error map after pixel i was off by `error`. `w` is WEIGHTS: a constant array that is read in a loop would be built anew at each turn.
-pub fn diffuse(m: &mut [f32; 16], w: &[f32; 20], i: usize, error: f32)
-    requires { (i < 16) × (w.now ≡ weights) }
+// The error map after pixel i was off by `error`.
+pub fn diffuse(m: &mut [f32; 16], i: usize, error: f32)
+    requires { i < 16 }
     ensures { m.new ≡ diffused m.old i error }
 {
     let x = i % 4;
     if i < 12 {
-        give(x < 3, m, i, 1, part(w, x, 0, error));
-        give(0 < x, m, i, 3, part(w, x, 1, error));
-        give(true, m, i, 4, part(w, x, 2, error));
-        give(x < 3, m, i, 5, part(w, x, 3, error));
+        give(x < 3, m, i, 1, part(x, 0, error));
+        give(0 < x, m, i, 3, part(x, 1, error));
+        give(true, m, i, 4, part(x, 2, error));
+        give(x < 3, m, i, 5, part(x, 3, error));
         return;
     }
-    give(x < 3, m, i, 1, part(w, 4, 0, error));
+    give(x < 3, m, i, 1, part(4, 0, error));
 }
 
 // The sample that a palette is asked about for pixel i.
@@ -79,39 +79,21 @@ fn asked(b: &[f32; 16], map: &[f32; 16], i: usize) -> f32
     b[i] + map[i]
 }
 
-// Both palettes are made and one is used. All that a turn does stands in the arms, so that the compiler makes a loop of each: with a part of it in
-// common, or in a function of its own, it does not.
-pub fn dither(kind: Kind, b: &[f32; 16], c0: f32, c1: f32) -> Indexed
-    ensures { result ≡ block_dither (closest_of kind c0 c1) b.now }
+pub fn dither<P: Palette>(b: &[f32; 16], c0: f32, c1: f32) -> Indexed
+    ensures { result ≡ block_dither (closest_of P.kind c0 c1) b.now }
 {
-    let six = Inter6Palette::new(c0, c1);
-    let four = Inter4Palette::new(c0, c1);
-    let w = WEIGHTS;
-    let index_map = Inter6Palette::INDEX_MAP;
+    let palette = P::from_ends(c0, c1);
     let mut map = [0.0f32; 16];
-    let mut list = IndexList::new_empty();
-    let mut total = 0.0f32;
+    let mut indexes = IndexList::new_empty();
+    let mut error = 0.0f32;
     for i in 0..16usize {
         let pixel = asked(b, &map, i);
-        match kind {
-            // The error goes without its sign's being cleared: it is only squared.
-            Kind::Six => {
-                let c = six.closest(&index_map, pixel);
-                list = list.set(i, c.index);
-                let off = pixel - c.value;
-                total = total + off * off;
-                diffuse(&mut map, &w, i, off);
-            }
-            Kind::Four => {
-                let c = four.closest(pixel);
-                list = list.set(i, c.index);
-                total = total + c.error * c.error;
-                diffuse(&mut map, &w, i, pixel - c.value);
-            }
-        }
+        let c = palette.closest(pixel);
+        indexes = indexes.set(i, c.index);
+        let off = pixel - c.value;
+        // The answer's error but for its sign, which a square does not show.
+        error = error + off * off;
+        diffuse(&mut map, i, off);
     }
-    Indexed {
-        indexes: list,
-        error: total,
-    }
+    Indexed { indexes, error }
 }

@@ -17,44 +17,35 @@ pub struct WeightMatrix {
     pub e10_11: f32,
 }
 
-// The Rust's Option: a determinant that is too small is a case of its own.
-#[derive(Clone, Copy)]
-pub enum Inverse {
-    Matrix(WeightMatrix),
-    TooSmall,
-}
-
-pub fn from_d(a: f32, b: f32, c: f32) -> Inverse
+// None where the determinant is too small.
+pub fn from_d(a: f32, b: f32, c: f32) -> Option<WeightMatrix>
     ensures { result ≡ from_d a b c }
 {
     let det = a * c - b * b;
     if floats::abs(det) < EPSILON {
-        return Inverse::TooSmall;
+        return None;
     }
     let rep = 1.0 / det;
     let e00 = c * rep;
     let e01 = -b * rep;
     let e11 = a * rep;
-    Inverse::Matrix(WeightMatrix {
-        e01: e01,
-        e11: e11,
+    Some(WeightMatrix {
+        e01,
+        e11,
         e00_01: e00 - e01,
         e10_11: e01 - e11,
     })
 }
 
-pub fn or_mean(i: Inverse) -> WeightMatrix
-    ensures { result ≡ or_mean i }
+pub fn or_mean(inverse: Option<WeightMatrix>) -> WeightMatrix
+    ensures { result ≡ or_mean inverse }
 {
-    match i {
-        Inverse::Matrix(m) => m,
-        Inverse::TooSmall => WeightMatrix {
-            e01: 0.0625,
-            e11: 0.0625,
-            e00_01: 0.0,
-            e10_11: 0.0,
-        },
-    }
+    inverse.unwrap_or(WeightMatrix {
+        e01: 0.0625,
+        e11: 0.0625,
+        e00_01: 0.0,
+        e10_11: 0.0,
+    })
 }
 
 fn dot_in_pairs(u: &[f32; 16], v: &[f32; 16]) -> f32

@@ -5,9 +5,7 @@ ghost use Rattle.std.specs.Prelude.{◌≡◌, cond};
 ghost use Rattle.coding.specs.Coding.{smaller as smaller_of, laid_out, ended as ended_of};
 
 use end_points::EndPoints;
-use palette::inter4::Inter4Palette;
-use palette::inter6::Inter6Palette;
-use palette::{Indexed, Kind};
+use palette::{Indexed, Palette};
 
 // The eight bytes as one number, byte 0 lowest, and the total error.
 #[derive(Clone, Copy)]
@@ -38,15 +36,11 @@ fn laid_out(e: EndPoints, x: Indexed) -> Coded
     }
 }
 
-// Laid out in each arm: behind them the compiler would carry the indexes of both kinds.
-pub fn ended(kind: Kind, b: &[f32; 16], dither: bool, e: EndPoints) -> Coded
-    ensures { result ≡ ended_of kind b.now dither e }
+pub fn ended<P: Palette>(b: &[f32; 16], dither: bool, e: EndPoints) -> Coded
+    ensures { result ≡ ended_of P.kind b.now dither e }
 {
     if dither {
-        return laid_out(e, bcn_util::dither::dither(kind, b, e.c0_f, e.c1_f));
+        return laid_out(e, bcn_util::dither::dither::<P>(b, e.c0_f, e.c1_f));
     }
-    match kind {
-        Kind::Six => laid_out(e, Inter6Palette::new(e.c0_f, e.c1_f).block_closest(b)),
-        Kind::Four => laid_out(e, Inter4Palette::new(e.c0_f, e.c1_f).block_closest(b)),
-    }
+    laid_out(e, P::from_ends(e.c0_f, e.c1_f).block_closest(b))
 }

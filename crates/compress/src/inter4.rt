@@ -7,7 +7,7 @@ use coding::Coded;
 use end_points::EndPoints;
 use floats::Pair;
 use options::Options;
-use palette::Kind;
+use palette::inter4::Inter4Palette;
 use refine::rounds::Held;
 
 const BC4_MIN_VALUE: f32 = 1.0 / (255.0 * 7.0);
@@ -34,9 +34,9 @@ impl Sorted<'_> {
         ensures { result ≡ candidate_of self.now.block.now h low high }
     {
         if upward(h) {
-            return refine::rounds::hold(Kind::Four, self.block, self.placed(low + 1), h.max);
+            return refine::rounds::hold::<Inter4Palette>(self.block, self.placed(low + 1), h.max);
         }
-        refine::rounds::hold(Kind::Four, self.block, h.min, self.placed(high - 1))
+        refine::rounds::hold::<Inter4Palette>(self.block, h.min, self.placed(high - 1))
     }
 
     // The Rust remembers the side of a move that failed and stops when that side is next again. It always is: nothing has changed by then.
@@ -70,7 +70,7 @@ fn inter4_reassign_defaults(b: &[f32; 16], p: Pair) -> Pair
     if far(p) {
         return p;
     }
-    let start = refine::rounds::hold(Kind::Four, b, p.0, p.1);
+    let start = refine::rounds::hold::<Inter4Palette>(b, p.0, p.1);
     let from = crate::sorted::place_of(b, p.0);
     let to = crate::sorted::place_of(b, p.1);
     let sorted = Sorted {
@@ -95,11 +95,6 @@ pub fn compress_inter4(b: &[f32; 16], o: Options) -> Coded
 {
     let p = block::min_max_with_threshold(b, BC4_MIN_VALUE);
     let first = first_ends(b, o.iter_initial_inter4, p);
-    let ends = refine::refine_endpoints(Kind::Four, b, first.0, first.1, o);
-    coding::ended(
-        Kind::Four,
-        b,
-        o.dither,
-        EndPoints::new_inter4(ends.0, ends.1, o.snorm),
-    )
+    let ends = refine::refine_endpoints::<Inter4Palette>(b, first.0, first.1, o);
+    coding::ended::<Inter4Palette>(b, o.dither, EndPoints::new_inter4(ends.0, ends.1, o.snorm))
 }

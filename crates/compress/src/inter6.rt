@@ -6,20 +6,15 @@ use coding::Coded;
 use end_points::EndPoints;
 use floats::Pair;
 use options::Options;
-use palette::Kind;
+use palette::inter6::Inter6Palette;
 
 // compress_inter6_impl
 fn compressed_from(b: &[f32; 16], p: Pair, o: Options) -> Coded
     ensures { result ≡ compressed_from b.now p o }
 {
     let fitted = fit::fitted_twice(b, p);
-    let ends = refine::refine_endpoints(Kind::Six, b, fitted.0, fitted.1, o);
-    coding::ended(
-        Kind::Six,
-        b,
-        o.dither,
-        EndPoints::new_inter6(ends.0, ends.1, o.snorm),
-    )
+    let ends = refine::refine_endpoints::<Inter6Palette>(b, fitted.0, fitted.1, o);
+    coding::ended::<Inter6Palette>(b, o.dither, EndPoints::new_inter6(ends.0, ends.1, o.snorm))
 }
 
 fn nudged(mean: f32, x: f32) -> f32

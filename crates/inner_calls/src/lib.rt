@@ -21,7 +21,7 @@ use floats::Pair;
 use index_list::IndexList;
 use palette::inter4::Inter4Palette;
 use palette::inter6::Inter6Palette;
-use palette::{Closest, Indexed, Kind};
+use palette::{Closest, Indexed, Palette};
 
 #[unsafe(no_mangle)]
 pub extern "C" fn inner_abs(x: f32) -> f32
@@ -281,14 +281,14 @@ pub extern "C" fn inner_places(b: &[f32; 16], out: &mut [f32; 16])
 pub extern "C" fn inner_palette_error6(b: &[f32; 16], c0: f32, c1: f32) -> f32
     ensures { result ≡ palette_error Six b.now c0 c1 }
 {
-    palette::palette_error(Kind::Six, b, c0, c1)
+    palette::palette_error::<Inter6Palette>(b, c0, c1)
 }
 
 #[unsafe(no_mangle)]
 pub extern "C" fn inner_palette_error4(b: &[f32; 16], c0: f32, c1: f32) -> f32
     ensures { result ≡ palette_error Four b.now c0 c1 }
 {
-    palette::palette_error(Kind::Four, b, c0, c1)
+    palette::palette_error::<Inter4Palette>(b, c0, c1)
 }
 
 // The index; its value and the error in `out`.
@@ -299,8 +299,7 @@ fn give_closest(c: Closest, out: &mut [f32; 2]) -> u8 {
 
 #[unsafe(no_mangle)]
 pub extern "C" fn inner_closest6(c0: f32, c1: f32, pixel: f32, out: &mut [f32; 2]) -> u8 {
-    let map = Inter6Palette::INDEX_MAP;
-    give_closest(Inter6Palette::new(c0, c1).closest(&map, pixel), out)
+    give_closest(Inter6Palette::new(c0, c1).closest(pixel), out)
 }
 
 #[unsafe(no_mangle)]
@@ -338,19 +337,18 @@ pub extern "C" fn inner_least_squares(colors: &[f32; 16], w: &[f32; 16], out: &m
 
 #[unsafe(no_mangle)]
 pub extern "C" fn inner_dither6(c0: f32, c1: f32, b: &[f32; 16], data: &mut u64) -> f32 {
-    give_indexed(bcn_util::dither::dither(Kind::Six, b, c0, c1), data)
+    give_indexed(bcn_util::dither::dither::<Inter6Palette>(b, c0, c1), data)
 }
 
 #[unsafe(no_mangle)]
 pub extern "C" fn inner_dither4(c0: f32, c1: f32, b: &[f32; 16], data: &mut u64) -> f32 {
-    give_indexed(bcn_util::dither::dither(Kind::Four, b, c0, c1), data)
+    give_indexed(bcn_util::dither::dither::<Inter4Palette>(b, c0, c1), data)
 }
 
 // Nothing happens where the block has no pixel i.
 #[unsafe(no_mangle)]
 pub extern "C" fn inner_diffuse(m: &mut [f32; 16], i: usize, error: f32) {
     if i < 16 {
-        let w = bcn_util::dither::WEIGHTS;
-        bcn_util::dither::diffuse(m, &w, i, error);
+        bcn_util::dither::diffuse(m, i, error);
     }
 }

@@ -11,9 +11,8 @@ use Rattle.floats.proofs.Squares.{Plain}
 use Rattle.floats.proofs.Distances.{distance_0, distance_1}
 use Rattle.palette.specs.declared.Kind.{Kind}
 use Rattle.palette.specs.declared.Kind.TheVariants.{Six, Four}
-use Rattle.palette.specs.Palettes.{entry, inter6_palette, towards, colors, values6, values4, values_of}
+use Rattle.palette.specs.Palettes.{entry, towards, colors, values6, values4, values_of}
 use Rattle.palette.specs.PaletteError.{least_to}
-use Rattle.palette.specs.ByKind.{palette_of, values_in}
 
 -- ---- by index
 -- where the error function looks at the value of index k
@@ -66,9 +65,3 @@ value6_at c0 c1 (suc (suc (suc (suc (suc (suc k)))))) h = absurd (omega arith)
 pub default_distances : (c0 c1 p : Float) → T (fits binary32 p) → Plain p → le p f1 ≡ true → least_to (values_of Four c0 c1) p 1 ≡ lane_min p (f1 ⊖ p)
 unfolding least_to values_of values4
 default_distances c0 c1 p f s h = ap₂ lane_min (distance_0 p f s h) (distance_1 p s h)
-
--- ---- a palette as one value has its kind's values
-pub values_in_lem : (kind : Kind) (c0 c1 : Float) → values_in (palette_of kind c0 c1) ≡ values_of kind c0 c1
-unfolding values_in palette_of values_of inter6_palette
-values_in_lem Six c0 c1 = refl
-values_in_lem Four c0 c1 = refl

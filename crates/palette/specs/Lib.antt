@@ -2,4 +2,3 @@ pub mod Palettes
 pub mod PaletteError
 pub mod Closest
 pub mod Rows
-pub mod ByKind

@@ -1,11 +1,11 @@
 // Inter6Palette.
 ghost use Rattle.std.specs.Prelude.{◌≡◌, ◌≤◌, ◌<◌, get_or};
-ghost use Rattle.palette.specs.Palettes.{inter6_palette, index_map, blended as blended_of, values6};
-ghost use Rattle.palette.specs.Closest.{blend as blend_of, blend7 as blend7_of, closest6, weight, weights, block_closest};
+ghost use Rattle.palette.specs.declared.Kind.TheVariants.{Six};
+ghost use Rattle.palette.specs.Palettes.{inter6_palette, index_map, blended as blended_of};
+ghost use Rattle.palette.specs.Closest.{blend as blend_of, blend7 as blend7_of, closest6, weight, weights};
 ghost use Rattle.palette.specs.Rows.{index6, off6, row_code, row_sum, of_row, cut_weight};
 
-use crate::{Closest, Indexed};
-use end_points::EndPoints;
+use crate::{Closest, Indexed, Palette};
 
 // FACTORS
 const F1: f32 = 1.0 / 7.0;
@@ -19,6 +19,9 @@ const F4: f32 = 4.0 / 7.0;
 const F5: f32 = 5.0 / 7.0;
 
 const F6: f32 = 6.0 / 7.0;
+
+// A static: a constant array that is read in a loop is built anew at each turn.
+static INDEX_MAP: [u8; 8] = [1, 7, 6, 5, 4, 3, 2, 0];
 
 // The weight of a blend above -1, by the cut of `closest`.
 pub fn cut_weight(blend: f32) -> f32
@@ -60,8 +63,6 @@ pub struct Inter6Palette {
 }
 
 impl Inter6Palette {
-    pub const INDEX_MAP: [u8; 8] = [1, 7, 6, 5, 4, 3, 2, 0];
-
     pub fn new(c0: f32, c1: f32) -> Self
         ensures { result ≡ inter6_palette c0 c1 }
     {
@@ -69,37 +70,12 @@ impl Inter6Palette {
         let factor2 = F1 * (c0 - c1);
         let add1 = 0.5 - c1 * factor1;
         Self {
-            c0: c0,
-            c1: c1,
-            factor1: factor1,
-            factor2: factor2,
-            add1: add1,
-        }
-    }
-
-    pub fn from_endpoints(e: EndPoints) -> Self
-        ensures { result ≡ inter6_palette e.c0_f e.c1_f }
-    {
-        Self::new(e.c0_f, e.c1_f)
-    }
-
-    // block_closest_error_sq, the part that is this palette's own: the values that it looks at, from c0 to c1.
-    pub fn error_values(self) -> [f32; 8]
-        ensures { result ≡ values6 self.c0 self.c1 }
-    {
-        let c0 = self.c0;
-        let c1 = self.c1;
-        let cd = c1 - c0;
-        [
             c0,
-            c0 + cd * F1,
-            c0 + cd * F2,
-            c0 + cd * F3,
-            c0 + cd * F4,
-            c0 + cd * F5,
-            c0 + cd * F6,
-            c0 + cd * 1.0,
-        ]
+            c1,
+            factor1,
+            factor2,
+            add1,
+        }
     }
 
     // How many sevenths towards c0, before it is cut to a whole number.
@@ -130,21 +106,6 @@ impl Inter6Palette {
         floats::up_to_7(self.blend(pixel)) * self.factor2 + self.c1
     }
 
-    // `map` is INDEX_MAP: a constant array that is read in a loop would be built anew at each turn.
-    pub fn closest(self, map: &[u8; 8], pixel: f32) -> Closest
-        requires { map.now ≡ index_map }
-        ensures { result ≡ closest6 self pixel }
-    {
-        let k = self.blend7(pixel);
-        let value = self.value(pixel);
-        let at = k as usize;
-        Closest {
-            index: map[at],
-            value: value,
-            error: floats::abs(pixel - value),
-        }
-    }
-
     pub fn closest_weight(self, pixel: f32) -> f32
         ensures { result ≡ weight self pixel }
     {
@@ -152,6 +113,7 @@ impl Inter6Palette {
         1.0 - floats::trunc(blend) * F1
     }
 
+    // A loop that counts: `map` was tried, and takes 7 instructions more a block.
     pub fn block_closest_weights(self, b: &[f32; 16]) -> [f32; 16]
         ensures { result ≡ weights self b.now }
     {
@@ -165,9 +127,8 @@ impl Inter6Palette {
     fn matched(self, pixel: f32) -> Match
         ensures { (result.index ≡ index6 self pixel) × (result.index < 8) × (result.off ≡ off6 self pixel) }
     {
-        let k = self.blend7(pixel);
         Match {
-            index: index_of(k),
+            index: index_of(self.blend7(pixel)),
             off: pixel - self.value(pixel),
         }
     }
@@ -191,11 +152,29 @@ impl Inter6Palette {
     {
         self.four(b[4 * i], b[4 * i + 1], b[4 * i + 2], b[4 * i + 3])
     }
+}
 
-    // Row by row, as the squares are summed: four rows at once need no exchange of lanes.
-    pub fn block_closest(self, b: &[f32; 16]) -> Indexed
-        ensures { result ≡ block_closest (closest6 self) b.now }
-    {
+impl Palette for Inter6Palette {
+    ghost kind = { Six };
+
+    ghost rule = { closest6 };
+
+    fn from_ends(c0: f32, c1: f32) -> Self {
+        Self::new(c0, c1)
+    }
+
+    fn closest(self, pixel: f32) -> Closest {
+        let k = self.blend7(pixel);
+        let value = self.value(pixel);
+        Closest {
+            index: INDEX_MAP[k as usize],
+            value,
+            error: floats::abs(pixel - value),
+        }
+    }
+
+    // Row by row, as the squares are summed: four rows at once need no exchange of lanes. Two arrays, and not one of rows, for the same lanes (docs/SPEED.md).
+    fn block_closest(self, b: &[f32; 16]) -> Indexed {
         let mut codes = [0u32; 4];
         let mut sums = [0.0f32; 4];
         for i in 0..4usize {
@@ -207,5 +186,20 @@ impl Inter6Palette {
             indexes: crate::of_rows(codes[0], codes[1], codes[2], codes[3]),
             error: 0.0 + sums[0] + sums[1] + sums[2] + sums[3],
         }
+    }
+
+    // From c0 to c1.
+    fn values(c0: f32, c1: f32) -> [f32; 8] {
+        let cd = c1 - c0;
+        [
+            c0,
+            c0 + cd * F1,
+            c0 + cd * F2,
+            c0 + cd * F3,
+            c0 + cd * F4,
+            c0 + cd * F5,
+            c0 + cd * F6,
+            c0 + cd * 1.0,
+        ]
     }
 }

@@ -1,22 +1,22 @@
 // bc4.rs: the two palettes.
 #![tactic(auto)]
 
-ghost use Rattle.std.specs.Prelude.{◌≡◌, ℕ, ◌+◌, ◌*◌, ◌<◌, get_or};
+ghost use Rattle.std.specs.Prelude.{◌≡◌, ℕ, ◌+◌, ◌*◌, ◌<◌, get_or, Float};
 ghost use Rattle.index_list.specs.Indexes.{filled_to};
-ghost use Rattle.block.specs.Samples.{pixel_at, per_pixel};
-ghost use Rattle.block.specs.Orders.{sum_in_order};
-ghost use Rattle.palette.specs.PaletteError.{miss, palette_error};
-ghost use Rattle.palette.specs.Rows.{first_row_sum, first_row_error};
-ghost use Rattle.palette.specs.ByKind.{palette_of, values_in};
+ghost use Rattle.palette.specs.declared.Kind.{Kind as KindOf};
+ghost use Rattle.palette.specs.declared.Closest.{Closest as ClosestOf};
+ghost use Rattle.palette.specs.Palettes.{values_of};
+ghost use Rattle.palette.specs.Closest.{closest_of, block_closest};
+ghost use Rattle.palette.specs.PaletteError.{palette_error};
+ghost use Rattle.palette.specs.Rows.{first_row_error};
 
 pub mod error;
 pub mod inter4;
 pub mod inter6;
 
 use index_list::IndexList;
-use inter6::Inter6Palette;
 
-// What the Rust's generic parameter `P: Palette` chooses.
+// The two palettes. No code asks for it: it names the palette in the definitions.
 #[derive(Clone, Copy)]
 pub enum Kind {
     Six,
@@ -99,57 +99,37 @@ fn indexes(k: &[u32; 16]) -> IndexList
     )
 }
 
-// The palette that two ends make, by its kind: what implements the Rust's `Palette`. An enum holds no array, so the ends stand for four values.
-#[derive(Clone, Copy)]
-pub enum Palette {
-    Inter6(Inter6Palette),
-    Inter4(f32, f32),
-}
+// What the Rust's `Palette` asks of a palette. `kind` is the palette in the definitions.
+pub trait Palette: Copy {
+    ghost kind: { KindOf };
 
-impl Palette {
-    pub fn new(kind: Kind, c0: f32, c1: f32) -> Self
-        ensures { result ≡ palette_of kind c0 c1 }
-    {
-        match kind {
-            Kind::Six => Palette::Inter6(Inter6Palette::new(c0, c1)),
-            Kind::Four => Palette::Inter4(c0, c1),
-        }
-    }
+    // Its answer for a sample.
+    ghost rule: { Self → Float → ClosestOf };
+
+    fn from_ends(c0: f32, c1: f32) -> Self
+        ensures { rule result ≡ closest_of kind c0 c1 };
+
+    fn closest(self, pixel: f32) -> Closest
+        ensures { result ≡ rule self pixel };
+
+    fn block_closest(self, b: &[f32; 16]) -> Indexed
+        ensures { result ≡ block_closest (rule self) b.now };
 
     // The eight that the error looks at, in its order.
-    fn values(self) -> [f32; 8]
-        ensures { result ≡ values_in self }
-    {
-        match self {
-            Palette::Inter6(p) => p.error_values(),
-            Palette::Inter4(c0, c1) => inter4::values(c0, c1),
-        }
-    }
-
-    // The sum stands behind the choice: with one for each palette the compiler no longer lays the eight values out four at a time.
-    pub fn block_closest_error_sq(self, b: &[f32; 16]) -> f32
-        ensures { result ≡ sum_in_order (per_pixel (λ i. miss (values_in self) (pixel_at b.now i))) }
-    {
-        error::sum(self.values(), b)
-    }
-
-    // A floor of it: what the first row adds.
-    fn first_row_error_sq(self, b: &[f32; 16]) -> f32
-        ensures { result ≡ first_row_sum (values_in self) b.now }
-    {
-        error::first_row_sum(self.values(), b)
-    }
+    fn values(c0: f32, c1: f32) -> [f32; 8]
+        ensures { result ≡ values_of kind c0 c1 };
 }
 
 // What the Rust's closure over `P` works out for two ends.
-pub fn palette_error(kind: Kind, b: &[f32; 16], c0: f32, c1: f32) -> f32
-    ensures { result ≡ palette_error kind b.now c0 c1 }
+pub fn palette_error<P: Palette>(b: &[f32; 16], c0: f32, c1: f32) -> f32
+    ensures { result ≡ palette_error P.kind b.now c0 c1 }
 {
-    Palette::new(kind, c0, c1).block_closest_error_sq(b)
+    error::sum(P::values(c0, c1), b)
 }
 
-pub fn first_row_error(kind: Kind, b: &[f32; 16], c0: f32, c1: f32) -> f32
-    ensures { result ≡ first_row_error kind b.now c0 c1 }
+// A floor of it: what the first row adds.
+pub fn first_row_error<P: Palette>(b: &[f32; 16], c0: f32, c1: f32) -> f32
+    ensures { result ≡ first_row_error P.kind b.now c0 c1 }
 {
-    Palette::new(kind, c0, c1).first_row_error_sq(b)
+    error::first_row_sum(P::values(c0, c1), b)
 }

@@ -1,17 +1,32 @@
 -- The rounds of one refinement, by steps of the loops.
 use mathlib.Core.Path.{◌≡◌, refl}
 use mathlib.Core.Bool.{true, false, cond}
-use mathlib.Core.List.{List}
+use mathlib.Core.List.{List, [], ◌∷◌}
 use Prim.Native.Nat.{ℕ, zero, suc, ◌+◌, ◌-◌, ◌≤◌, ◌<◌}
 use native.Mathlib.Nat.{lt_irrefl}
 use native.Mathlib.Numerals.{add-one, sub-one}
 use native.Mathlib.Omega.{arith}
-use lib.Ieee.{Float, lt}
-use Rattle.floats.specs.Arithmetic.{◌⊕◌, ◌⊗◌, half}
+use lib.ListN.{get_or}
+use lib.Ieee.{Float, nan, neg, lt}
+use Rattle.floats.specs.Arithmetic.{◌⊕◌, ◌⊗◌, f0, half}
 use Rattle.floats.specs.Helpers.{clamp_of}
+use Rattle.floats.specs.declared.Pair.{Pair}
 use Rattle.palette.specs.declared.Kind.{Kind}
 use Rattle.refine.specs.declared.rounds.Held.{Held}
 use Rattle.refine.specs.Rounds.{held, better, delta_min, delta_max, tried, tried_to, round, rounds}
+
+-- the steps of a round's candidates, as the code lists them
+abbrev pub delta : Float → ℕ → Pair
+delta step i =
+    let pair : Float → Float → Pair = λ min max. record { 0 = min; 1 = max } in
+    get_or (pair step f0 ∷ pair f0 step ∷ pair (neg step) f0 ∷ pair f0 (neg step) ∷ []) i (pair nan nan)
+
+delta_is : (step : Float) (i : ℕ) → i < 4 → delta step i ≡ record { 0 = delta_min step i; 1 = delta_max step i }
+delta_is step zero h = refl
+delta_is step (suc zero) h = refl
+delta_is step (suc (suc zero)) h = refl
+delta_is step (suc (suc (suc zero))) h = refl
+delta_is step (suc (suc (suc (suc i)))) h = absurd (omega arith)
 
 module _ (kind : Kind) (b : List Float) where
   -- as the code has it, with the candidate held under a name
@@ -20,10 +35,10 @@ module _ (kind : Kind) (b : List Float) where
   better_is h min max s e = rw e
 
   -- one candidate more
-  pub tried_more : (start : Held) (step : Float) (i : ℕ)
-      → tried_to kind b start step (i + 1) ≡ tried kind b (tried_to kind b start step i) (clamp_of (start.min ⊕ delta_min step i)) (clamp_of (start.max ⊕ delta_max step i))
+  pub tried_more : (start : Held) (step : Float) (i : ℕ) → i < 4
+      → tried_to kind b start step (i + 1) ≡ tried kind b (tried_to kind b start step i) (clamp_of (start.min ⊕ (delta step i).0)) (clamp_of (start.max ⊕ (delta step i).1))
   unfolding tried_to
-  tried_more start step i = rw add-one
+  tried_more start step i h = rw (add-one, delta_is step i h)
 
   module _ (least : Float) where
     -- one round more, while rounds are left and the step is above the least

@@ -2,10 +2,13 @@
 use mathlib.Core.Path.{◌≡◌, refl}
 use mathlib.Core.Logic.{inl, inr}
 use mathlib.Core.Bool.{Bool, false}
-use mathlib.Core.List.{List}
-use Prim.Native.Nat.{ℕ, zero, suc, ◌+◌}
+use mathlib.Core.List.{List, [], ◌∷◌}
+use Prim.Native.Nat.{ℕ, zero, suc, ◌+◌, ◌<◌}
 use native.Mathlib.Numerals.{add-one}
-use lib.Ieee.{Float, lt}
+use native.Mathlib.Omega.{arith}
+use lib.ListN.{get_or}
+use lib.Ieee.{Float, nan, lt}
+use Rattle.floats.specs.Arithmetic.{◌⊕◌, ◌⊖◌}
 use Rattle.floats.specs.declared.Pair.{Pair}
 use Rattle.floats.proofs.Order.{lt_irrefl, lt_asym}
 use Rattle.palette.specs.declared.Kind.{Kind}
@@ -13,14 +16,28 @@ use Rattle.palette.specs.PaletteError.{palette_error}
 use Rattle.refine.specs.declared.rounds.Held.{Held}
 use Rattle.options.specs.declared.Quantization.TheVariants.{MediumQuality, HighQuality}
 use Rattle.refine.specs.Rounds.{held}
-use Rattle.refine.specs.Refining.{quantized_pair, held_pair, better_pair, other_pair, medium, closer_pair, high_to, pair_of, quantizing}
+use Rattle.refine.specs.Refining.{quant_step, quantized_pair, held_pair, better_pair, other_pair, medium, closer_pair, high_to, pair_of, quantizing}
 use Rattle.refine.proofs.Limits.{Better, better_trans, better_better, better_honest, held_honest, Honest}
+
+-- the pairs that high rounding tries, as the code lists them
+abbrev pub closer : Pair → ℕ → Pair
+closer p i =
+    let pair : Float → Float → Pair = λ min max. record { 0 = min; 1 = max } in
+    let up = p.0 ⊕ quant_step in
+    let down = p.1 ⊖ quant_step in
+    get_or (pair up p.1 ∷ pair p.0 down ∷ pair up down ∷ []) i (pair nan nan)
+
+closer_is : (p : Pair) (i : ℕ) → i < 3 → closer p i ≡ closer_pair p (i + 1)
+closer_is p zero h = refl
+closer_is p (suc zero) h = refl
+closer_is p (suc (suc zero)) h = refl
+closer_is p (suc (suc (suc i))) h = absurd (omega arith)
 
 module _ (kind : Kind) (b : List Float) (snorm : Bool) (p : Pair) where
   -- one pair more
-  pub high_more : (i : ℕ) → high_to kind b snorm p (i + 1) ≡ better_pair kind b (high_to kind b snorm p i) (quantized_pair snorm (closer_pair p (i + 1)))
+  pub high_more : (i : ℕ) → i < 3 → high_to kind b snorm p (i + 1) ≡ better_pair kind b (high_to kind b snorm p i) (quantized_pair snorm (closer p i))
   unfolding high_to
-  high_more i = rw add-one
+  high_more i h = rw (closer_is p i h, add-one)
 
   high_better : (i : ℕ) → Better (held_pair kind b (quantized_pair snorm p)) (high_to kind b snorm p i)
   unfolding high_to

@@ -2,7 +2,8 @@
 ghost use Rattle.std.specs.Prelude.{◌≡◌, ◌+◌, ◌<◌, ◌≤◌, length};
 ghost use Rattle.search.specs.Floor.{beyond as beyond_of, at_least, floor_of, min_floor, max_floor, max_floors, row_floor, PartFloors};
 
-use palette::Kind;
+use palette::inter4::Inter4Palette;
+use palette::inter6::Inter6Palette;
 
 // More than what rounding moves a value beyond the ends.
 const MARGIN: f32 = 1.0 / 4194304.0;
@@ -63,8 +64,8 @@ pub fn max_floors(b: &[f32; 16]) -> [f32; 256]
 fn row_floor(b: &[f32; 16], low: f32, high: f32) -> f32
     ensures { result ≡ row_floor b.now low high }
 {
-    let six = palette::first_row_error(Kind::Six, b, high, low);
-    let four = palette::first_row_error(Kind::Four, b, low, high);
+    let six = palette::first_row_error::<Inter6Palette>(b, high, low);
+    let four = palette::first_row_error::<Inter4Palette>(b, low, high);
     floats::pick((six < four) | (six != six), six, four)
 }
 

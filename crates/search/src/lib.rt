@@ -16,14 +16,16 @@ use coding::Coded;
 use end_points::EndPoints;
 use floats::Pair;
 use floor::{MaxFloors, PART};
-use palette::Kind;
+use palette::Palette;
+use palette::inter4::Inter4Palette;
+use palette::inter6::Inter6Palette;
 
-fn mode_tried(kind: Kind, b: &[f32; 16], best: Coded, e: EndPoints) -> Coded
-    ensures { result ≡ mode_tried kind b.now best e }
+fn mode_tried<P: Palette>(b: &[f32; 16], best: Coded, e: EndPoints) -> Coded
+    ensures { result ≡ mode_tried P.kind b.now best e }
 {
-    let error = palette::palette_error(kind, b, e.c0_f, e.c1_f);
+    let error = palette::palette_error::<P>(b, e.c0_f, e.c1_f);
     if error < best.error {
-        let found = coding::ended(kind, b, false, e);
+        let found = coding::ended::<P>(b, false, e);
         return Coded {
             bytes: found.bytes,
             error,
@@ -41,8 +43,8 @@ fn pair_tried(b: &[f32; 16], floor: f32, best: Coded, min: u8, max: u8) -> Coded
         return best;
     }
     let e = EndPoints::new_inter6_unorm(max, min);
-    let six = mode_tried(Kind::Six, b, best, e);
-    mode_tried(Kind::Four, b, six, e.inter6_to_inter4())
+    let six = mode_tried::<Inter6Palette>(b, best, e);
+    mode_tried::<Inter4Palette>(b, six, e.inter6_to_inter4())
 }
 
 fn maxes_tried(b: &[f32; 16], floors: &[f32], start: Coded, min: u8, at: usize) -> Coded
@@ -100,7 +102,7 @@ fn start_error(b: &[f32; 16], min: u8, max: u8) -> f32
     ensures { (result ≡ inf false) ⊎ ((min < max) × (lt (pair_error Six b.now min max) result ≡ true)) }
 {
     let e = EndPoints::new_inter6_unorm(max, min);
-    let error = palette::palette_error(Kind::Six, b, e.c0_f, e.c1_f);
+    let error = palette::palette_error::<Inter6Palette>(b, e.c0_f, e.c1_f);
     let above = error * 1.0001 + 0.0000000001;
     if min < max && error < above {
         return above;

@@ -4,12 +4,13 @@
 ghost use Rattle.std.specs.Prelude.{◌≡◌, true, ◌<◌};
 ghost use Rattle.std.specs.Float.Ieee.{le};
 ghost use Rattle.floats.specs.Arithmetic.{f0, f1};
+ghost use Rattle.coding.specs.Coding.{rule_of};
 ghost use Rattle.single.specs.Single.{uniform as uniform_of, nearer_palette, single_color};
 
 use coding::Coded;
 use end_points::EndPoints;
 use index_list::IndexList;
-use palette::Kind;
+use palette::Palette;
 use palette::inter4::Inter4Palette;
 use palette::inter6::Inter6Palette;
 
@@ -23,23 +24,23 @@ fn uniform(e: EndPoints, k: u8) -> u64
     e.with_indexes(IndexList::new_all(k))
 }
 
+// The index of the palette's value that is nearest, and how far that is.
+fn around<P: Palette>(value: f32, e: EndPoints) -> Coded
+    ensures { result ≡ record { bytes = uniform_of e (rule_of P.kind e value).index; error = (rule_of P.kind e value).error } }
+{
+    let nearest = P::from_ends(e.c0_f, e.c1_f).closest(value);
+    Coded {
+        bytes: uniform(e, nearest.index),
+        error: nearest.error,
+    }
+}
+
 // The more exact of the two palettes.
 fn nearer_palette(value: f32, snorm: bool) -> u64
     ensures { result ≡ nearer_palette value snorm }
 {
-    let e6 = EndPoints::new_inter6(value, value, snorm);
-    let e4 = EndPoints::new_inter4(value, value, snorm);
-    let map = Inter6Palette::INDEX_MAP;
-    let k6 = Inter6Palette::from_endpoints(e6).closest(&map, value);
-    let k4 = Inter4Palette::from_endpoints(e4).closest(value);
-    let six = Coded {
-        bytes: uniform(e6, k6.index),
-        error: k6.error,
-    };
-    let four = Coded {
-        bytes: uniform(e4, k4.index),
-        error: k4.error,
-    };
+    let six = around::<Inter6Palette>(value, EndPoints::new_inter6(value, value, snorm));
+    let four = around::<Inter4Palette>(value, EndPoints::new_inter4(value, value, snorm));
     coding::smaller(six, four).bytes
 }
 
@@ -54,7 +55,7 @@ pub fn single_color(value: f32, snorm: bool, dither: bool) -> u64
     }
     if dither {
         let e = EndPoints::new_inter6(value, value, snorm);
-        return coding::ended(Kind::Six, &[value; 16], true, e).bytes;
+        return coding::ended::<Inter6Palette>(&[value; 16], true, e).bytes;
     }
     nearer_palette(value, snorm)
 }

@@ -3,4 +3,4 @@ use Rattle.refine.proofs.refine_endpoints.Goals as goal
 
 pub returns : goal.returns
 unfolding refined_ends
-returns c = rw (c.quantizing.ensures, c.refine_endpoints-p.ensures, c.first_step-step.ensures, c.least_step-least.ensures)
+returns g c = rw (c.quantizing.ensures, c.refine_endpoints-p.ensures, c.first_step-step.ensures, c.least_step-least.ensures)

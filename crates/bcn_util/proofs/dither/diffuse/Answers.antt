@@ -15,10 +15,9 @@ returns-then-i-lt12 c =
       c.part-then-i-lt12.ensures,
       c.give.ensures,
       c.part.ensures,
-      c.requires.1,
     ) (sym (diffused_above a.m.now a.i a.error (lt-ltb _ _ c.if-i-lt12.true)))
 
 pub returns : goal.returns
 returns c =
     let a = c.args in
-    rw (c.give-2.ensures, c.part-2.ensures, c.requires.1) (sym (diffused_last a.m.now a.i a.error (le-ltb _ _ c.if-i-lt12.false)))
+    rw (c.give-2.ensures, c.part-2.ensures) (sym (diffused_last a.m.now a.i a.error (le-ltb _ _ c.if-i-lt12.false)))

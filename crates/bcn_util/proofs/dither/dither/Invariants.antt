@@ -3,4 +3,4 @@ use Rattle.bcn_util.proofs.DitherLaws.{Reached}
 use Rattle.bcn_util.proofs.dither.dither.Given as goal
 
 abbrev pub invariant-loop-i : goal.invariant-loop-i
-invariant-loop-i l = (l.i ≤ 16) × Reached l.kind l.c0 l.c1 l.b l.i l.map (record { indexes = l.list; error = l.total })
+invariant-loop-i g l = (l.i ≤ 16) × Reached g.P.Palette.kind l.c0 l.c1 l.b l.i l.map (record { indexes = l.indexes; error = l.error })

@@ -3,4 +3,4 @@ use Rattle.refine.proofs.rounds.hold.Goals as goal
 
 pub returns : goal.returns
 unfolding held
-returns c = rw c.palette_error.ensures
+returns g c = rw c.palette_error.ensures

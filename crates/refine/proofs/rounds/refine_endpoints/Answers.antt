@@ -5,12 +5,12 @@ use Rattle.refine.proofs.rounds.refine_endpoints.Goals as goal
 
 pub returns-then-limit-eq0 : goal.returns-then-limit-eq0
 unfolding refined held
-returns-then-limit-eq0 c = rw (rounds_none c.args.kind c.args.b.now c.args.least c.args.limit c.args.step _ (omega arith))
+returns-then-limit-eq0 g c = rw (rounds_none g.P.Palette.kind c.args.b.now c.args.least c.args.limit c.args.step _ (omega arith))
 
 pub returns-then-not-step-least : goal.returns-then-not-step-least
 unfolding refined held
-returns-then-not-step-least c = rw (rounds_end c.args.kind c.args.b.now c.args.least c.args.limit c.args.step _ c.if-not-step-least.true)
+returns-then-not-step-least g c = rw (rounds_end g.P.Palette.kind c.args.b.now c.args.least c.args.limit c.args.step _ c.if-not-step-least.true)
 
 pub returns : goal.returns
 unfolding refined
-returns c = rw (c.rounds-h.ensures, c.hold.ensures)
+returns g c = rw (c.rounds-h.ensures, c.hold.ensures)

@@ -1,17 +1,17 @@
 use mathlib.Core.Path.{refl, sym}
+use native.Mathlib.Omega.{arith}
 use Rattle.refine.specs.Rounds.{tried_to}
 use Rattle.refine.proofs.RoundLaws.{tried_more}
 use Rattle.std.proofs.Common.{rules}
 use Rattle.refine.proofs.rounds.round.Goals as goal
 
-pub loop-i-init : goal.loop-i-init
+pub loop-d-init : goal.loop-d-init
 unfolding tried_to
-loop-i-init c = (search rules, refl)
+loop-d-init g c = (search rules, refl)
 
-pub loop-i-preserved : goal.loop-i-preserved
-loop-i-preserved c =
-    let a = c.args in (
-      search rules,
-      rw (c.tried-h.ensures, c.clamp-max.ensures, c.delta_max.ensures, c.clamp-min.ensures, c.delta_min.ensures, c.loop-i.invariant.1)
-          (sym (tried_more a.kind a.b.now a.start a.step c.loop-i.i)),
-    )
+pub loop-d-preserved : goal.loop-d-preserved
+loop-d-preserved g c = (
+  search rules,
+  rw (c.tried-h.ensures, c.clamp-max.ensures, c.clamp-min.ensures, c.loop-d.invariant.1)
+      (sym (tried_more g.P.Palette.kind c.args.b.now c.args.start c.args.step c.loop-d.d-index (omega arith))),
+)

@@ -6,7 +6,7 @@ use Rattle.block.specs.Orders.{sum_of_squares}
 use Rattle.block.proofs.Fill.{fill_end}
 use Rattle.palette.specs.Closest.{closest4}
 use Rattle.palette.proofs.ClosestLaws.{nearest6_lt, indexed_is}
-use Rattle.palette.proofs.inter4.Inter4Palette.block_closest.Goals as goal
+use Rattle.palette.proofs.inter4.Inter4PalettePalette.block_closest.Goals as goal
 
 pub indexes-requires : goal.indexes-requires
 indexes-requires c = λ i l. rw (c.loop-i.invariant.0.done i (omega arith)) (nearest6_lt c.args.self.colors (pixel_at c.args.b.now i))

@@ -8,7 +8,7 @@ use Rattle.block.specs.Samples.{pixel_at}
 use Rattle.palette.specs.Closest.{closest6}
 use Rattle.palette.specs.Rows.{index6, off6, row_code, row_sum, of_row}
 use Rattle.palette.proofs.ClosestLaws.{row_lt, rows_code, rows_sum, sum_abs, indexed_is}
-use Rattle.palette.proofs.inter6.Inter6Palette.block_closest.Goals as goal
+use Rattle.palette.proofs.inter6.Inter6PalettePalette.block_closest.Goals as goal
 
 pub of_rows-requires : goal.of_rows-requires
 of_rows-requires c =

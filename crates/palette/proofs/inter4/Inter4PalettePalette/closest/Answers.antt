@@ -1,7 +1,7 @@
 use native.Mathlib.Omega.{arith}
 use Rattle.palette.specs.Closest.{closest4}
 use Rattle.palette.proofs.ClosestLaws.{nearest6_lt}
-use Rattle.palette.proofs.inter4.Inter4Palette.closest.Goals as goal
+use Rattle.palette.proofs.inter4.Inter4PalettePalette.closest.Goals as goal
 
 pub overflow_cast-result : goal.overflow_cast-result
 overflow_cast-result c = omega (arith, rw (← c.nearest-n.ensures) at (nearest6_lt c.args.self.colors c.args.pixel))

@@ -4,7 +4,7 @@ use lib.Ieee.{Float, nan}
 use Rattle.block.specs.Samples.{pixel_at}
 use Rattle.block.proofs.Fill.{Filled}
 use Rattle.palette.specs.Closest.{nearest_to}
-use Rattle.palette.proofs.inter4.Inter4Palette.block_closest.Given as goal
+use Rattle.palette.proofs.inter4.Inter4PalettePalette.block_closest.Given as goal
 
 -- the index and the error of pixel i
 abbrev pub index : List Float → List Float → ℕ → ℕ
