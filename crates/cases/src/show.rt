@@ -97,6 +97,16 @@ impl<T: Display> Display for Answer<T> {
     }
 }
 
+// How many bytes a call has written.
+#[derive(Clone, Copy)]
+pub struct Written(pub usize);
+
+impl Display for Written {
+    fn fmt<W: fmt::Write>(&self, f: &mut fmt::Formatter<W>) -> fmt::Result {
+        write!(f, "written {}", self.0)
+    }
+}
+
 // A refusal, if any, before what lent memory holds after the call.
 #[derive(Clone, Copy)]
 pub struct IfRefused(pub Result<(), Refusal>);
