@@ -12,7 +12,7 @@ fn counted(rt: &impl Print, count: usize, nans: &[usize]) -> io::Result<()> {
     println!(rt;
         "encode {count} samples{}: {}",
         Nans(nans),
-        Answer(told.map(|b| Block(b)))
+        Answer(told.map(Block))
     )
 }
 
@@ -23,7 +23,7 @@ fn valued(rt: &impl Print, what: Sixteen, o: Options) -> io::Result<()> {
         format(o.snorm),
         if_set(o.dither, ", dither"),
         if_set(o.brute_force, ", search"),
-        Answer(told.map(|b| Block(b))),
+        Answer(told.map(Block)),
     )
 }
 

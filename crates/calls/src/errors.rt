@@ -14,7 +14,7 @@ fn counted(rt: &impl Print, count: usize, length: usize, nans: &[usize]) -> io::
     let s: [f32; 17] = given::samples(Channel::First, nans);
     let b: [u8; 17] = given::bytes();
     let told = bc4::block_error(given::first(&s, count), given::first(&b, length), false);
-    let told = Answer(told.map(|x| Bits(x)));
+    let told = Answer(told.map(Bits));
     println!(rt;
         "error of {count} samples and {length} bytes{}: {told}",
         Nans(nans)
@@ -23,7 +23,7 @@ fn counted(rt: &impl Print, count: usize, length: usize, nans: &[usize]) -> io::
 
 fn valued(rt: &impl Print, what: Sixteen, encoded: [u8; 8], snorm: bool) -> io::Result<()> {
     let told = bc4::block_error(&given::block(what), &encoded, snorm);
-    let told = Answer(told.map(|x| Bits(x)));
+    let told = Answer(told.map(Bits));
     println!(rt;
         "error of {what} and {}, {}: {told}",
         Hex(&encoded),

@@ -11,7 +11,7 @@ fn tiled(rt: &impl Print, samples: &mut [f32], nans: &[usize], out: &mut [u8]) -
     println!(rt;
         "tile 1024 by 1024{}: {}, out {:08x}",
         Nans(nans),
-        Answer(told.map(|n| Written(n))),
+        Answer(told.map(Written)),
         checksum(out),
     )
 }

@@ -19,7 +19,7 @@ impl fmt::Display for Held {
 
 fn answer(rt: &impl Print, samples: &[f32], held: &[u8], o: Options) -> io::Result<()> {
     let told = bc4::resend(samples, held, o);
-    println!(rt; ": {}", Answer(told.map(|kept| Held(kept))))
+    println!(rt; ": {}", Answer(told.map(Held)))
 }
 
 fn counted(

@@ -22,7 +22,7 @@ fn tiled(
     println!(rt;
         "tile {width} by {height}, {count} samples into {room} bytes{}: {}, out {:08x}",
         Nans(nans),
-        Answer(told.map(|n| Written(n))),
+        Answer(told.map(Written)),
         checksum(&out),
     )
 }
@@ -102,9 +102,9 @@ fn one_block(rt: &impl Print, snorm: bool) -> io::Result<()> {
     println!(rt;
         "tile 4 by 4, {}: {} {}, block {}",
         format(snorm),
-        Answer(told.map(|n| Written(n))),
+        Answer(told.map(Written)),
         Hex(&out),
-        Answer(block.map(|b| Block(b))),
+        Answer(block.map(Block)),
     )
 }
 

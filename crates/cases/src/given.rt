@@ -50,7 +50,7 @@ pub fn samples<const N: usize>(channel: Channel, nans: &[usize]) -> [f32; N] {
 }
 
 pub fn bytes<const N: usize>() -> [u8; N] {
-    std::array::from_fn(|k| byte(k))
+    std::array::from_fn(byte)
 }
 
 // The same for what is on the heap.
@@ -63,6 +63,19 @@ pub fn fill_samples(samples: &mut [f32], nans: &[usize]) {
 pub fn fill_bytes(bytes: &mut [u8]) {
     for (k, given) in bytes.iter_mut().enumerate() {
         *given = byte(k);
+    }
+}
+
+// What is lent of a channel: how many samples, and which of them are NaN.
+#[derive(Clone, Copy)]
+pub struct Lent<'a> {
+    pub count: usize,
+    pub nans: &'a [usize],
+}
+
+impl<'a> Lent<'a> {
+    pub fn new(count: usize, nans: &'a [usize]) -> Self {
+        Self { count, nans }
     }
 }
 

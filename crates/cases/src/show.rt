@@ -1,5 +1,5 @@
 // What a line is made of, where it is no number or text.
-use crate::given::Sixteen;
+use crate::given::{Lent, Sixteen};
 use bc4::Refusal;
 use std::fmt::Display;
 use std::{fmt, io};
@@ -81,6 +81,12 @@ impl Display for Nans<'_> {
             joint = " and";
         }
         Ok(())
+    }
+}
+
+impl Display for Lent<'_> {
+    fn fmt<W: fmt::Write>(&self, f: &mut fmt::Formatter<W>) -> fmt::Result {
+        write!(f, "{} samples{}", self.count, Nans(self.nans))
     }
 }
 
