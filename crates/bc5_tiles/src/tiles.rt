@@ -36,6 +36,14 @@ impl<'a> Tile<'a> {
     fn right() -> Self {
         Self::new(12, 8, 96)
     }
+
+    fn lending(first: Lent<'a>, second: Lent<'a>) -> Self {
+        Self {
+            first,
+            second,
+            ..Self::right()
+        }
+    }
 }
 
 fn named(rt: &impl Print, t: Tile<'_>) -> io::Result<()> {
@@ -89,14 +97,7 @@ pub fn each_count(rt: &impl Print) -> io::Result<()> {
         for first in [95, 96, 97] {
             let first = Lent::new(first, &[]);
             let second = Lent::new(second, &[]);
-            tiled(
-                rt,
-                Tile {
-                    first,
-                    second,
-                    ..Tile::right()
-                },
-            )?;
+            tiled(rt, Tile::lending(first, second))?;
         }
     }
     Ok(())
@@ -109,14 +110,7 @@ pub fn each_nan(rt: &impl Print) -> io::Result<()> {
         for first in places {
             let first = Lent::new(96, first);
             let second = Lent::new(96, second);
-            tiled(
-                rt,
-                Tile {
-                    first,
-                    second,
-                    ..Tile::right()
-                },
-            )?;
+            tiled(rt, Tile::lending(first, second))?;
         }
     }
     Ok(())
@@ -129,15 +123,8 @@ fn each_fault(rt: &impl Print, first_nans: &[usize], second_nans: &[usize]) -> i
             for first in [96, 95] {
                 let first = Lent::new(first, first_nans);
                 let second = Lent::new(second, second_nans);
-                tiled(
-                    rt,
-                    Tile {
-                        first,
-                        second,
-                        room,
-                        ..Tile::right()
-                    },
-                )?;
+                let lent = Tile::lending(first, second);
+                tiled(rt, Tile { room, ..lent })?;
             }
         }
     }
@@ -172,36 +159,16 @@ fn sizes(rt: &impl Print) -> io::Result<()> {
 
 pub fn cases(rt: &impl Print) -> io::Result<()> {
     sizes(rt)?;
+    let right = Tile::right();
     for room in [0, 48, 97, 4128] {
-        tiled(
-            rt,
-            Tile {
-                room,
-                ..Tile::right()
-            },
-        )?;
+        tiled(rt, Tile { room, ..right })?;
     }
-    tiled(
-        rt,
-        Tile {
-            snorm: true,
-            ..Tile::right()
-        },
-    )?;
+    let snorm = true;
+    tiled(rt, Tile { snorm, ..right })?;
+    let tall = Tile::new(8, 12, 96);
     let second = Lent::new(96, &[37]);
-    tiled(
-        rt,
-        Tile {
-            second,
-            ..Tile::new(8, 12, 96)
-        },
-    )?;
+    tiled(rt, Tile { second, ..tall })?;
+    let tallest = Tile::new(4, 1024, 4096);
     let second = Lent::new(4096, &[4095]);
-    tiled(
-        rt,
-        Tile {
-            second,
-            ..Tile::new(4, 1024, 4096)
-        },
-    )
+    tiled(rt, Tile { second, ..tallest })
 }

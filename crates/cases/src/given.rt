@@ -5,11 +5,7 @@ use refusal::Channel;
 // A multiple of 4 whose products with a side do not fit.
 pub const FAR: usize = 0xffff_ffff_ffff_fffc;
 
-pub const FARTHEST: usize = 0xffff_ffff_ffff_ffff;
-
-const NAN: f32 = 0.0 / 0.0;
-
-const INFINITY: f32 = 1.0 / 0.0;
+pub const FARTHEST: usize = usize::MAX;
 
 // A case says what it has otherwise.
 pub const OPTIONS: Options = Options {
@@ -37,7 +33,7 @@ fn byte(i: usize) -> u8 {
 // Of two channels the second is the same from further on, so that a half tells whose it is. `nans` are the indexes of those that are NaN.
 fn sample_in(channel: Channel, nans: &[usize], i: usize) -> f32 {
     if nans.contains(&i) {
-        return NAN;
+        return f32::NAN;
     }
     match channel {
         Channel::First => sample(i),
@@ -114,17 +110,10 @@ pub fn block(what: Sixteen) -> [f32; 16] {
         Sixteen::LaterSlopes => samples(Channel::Second, &[]),
         Sixteen::Zeros => [0.0; 16],
         Sixteen::Ones => [1.0; 16],
-        Sixteen::Infinite => [INFINITY; 16],
-        Sixteen::MinusInfinite => [-INFINITY; 16],
+        Sixteen::Infinite => [f32::INFINITY; 16],
+        Sixteen::MinusInfinite => [f32::NEG_INFINITY; 16],
         Sixteen::ZeroAndOne => halves(0.0, 1.0),
-        Sixteen::BothInfinite => halves(-INFINITY, INFINITY),
+        Sixteen::BothInfinite => halves(f32::NEG_INFINITY, f32::INFINITY),
         Sixteen::BothOutside => halves(-3.5, 2.5),
     }
-}
-
-// To go: what dds_calls and station_calls name.
-pub const NONE: usize = 0xffff_ffff;
-
-pub fn first_bytes(s: &[u8], count: usize) -> &[u8] {
-    first(s, count)
 }
