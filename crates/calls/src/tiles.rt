@@ -28,16 +28,13 @@ fn tiled(
 }
 
 // Width, height, samples and room.
-const WIDTHS: [(usize, usize, usize, usize); 6] = [
+const SIZES: [(usize, usize, usize, usize); 12] = [
     (0, 4, 0, 0),
     (4, 4, 16, 8),
     (6, 4, 24, 12),
     (1024, 4, 4096, 2048),
     (1028, 4, 4112, 2056),
     (FAR, 4, 16, 8),
-];
-
-const HEIGHTS: [(usize, usize, usize, usize); 6] = [
     (4, 0, 0, 0),
     (4, 6, 24, 12),
     (4, 1024, 4096, 2048),
@@ -47,10 +44,7 @@ const HEIGHTS: [(usize, usize, usize, usize); 6] = [
 ];
 
 fn sizes(rt: &impl Print) -> io::Result<()> {
-    for (width, height, count, room) in WIDTHS {
-        tiled(rt, width, height, count, room, &[])?;
-    }
-    for (width, height, count, room) in HEIGHTS {
+    for (width, height, count, room) in SIZES {
         tiled(rt, width, height, count, room, &[])?;
     }
     Ok(())

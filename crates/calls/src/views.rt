@@ -31,16 +31,13 @@ fn viewed(
 }
 
 // Width, height, length, column and row.
-const WIDTHS: [(usize, usize, usize, usize, usize); 6] = [
+const SIZES: [(usize, usize, usize, usize, usize); 12] = [
     (0, 4, 0, 0, 0),
     (4, 4, 8, 0, 0),
     (6, 4, 12, 0, 0),
     (1024, 4, 2048, 255, 0),
     (1028, 4, 2056, 256, 0),
     (FAR, 4, 8, 0, 0),
-];
-
-const HEIGHTS: [(usize, usize, usize, usize, usize); 6] = [
     (4, 0, 0, 0, 0),
     (4, 6, 12, 0, 0),
     (4, 1024, 2048, 0, 255),
@@ -50,10 +47,7 @@ const HEIGHTS: [(usize, usize, usize, usize, usize); 6] = [
 ];
 
 fn sizes(rt: &impl Print) -> io::Result<()> {
-    for (width, height, length, column, row) in WIDTHS {
-        viewed(rt, width, height, length, column, row)?;
-    }
-    for (width, height, length, column, row) in HEIGHTS {
+    for (width, height, length, column, row) in SIZES {
         viewed(rt, width, height, length, column, row)?;
     }
     Ok(())

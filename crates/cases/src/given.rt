@@ -49,7 +49,7 @@ pub fn bytes<const N: usize>() -> [u8; N] {
     std::array::from_fn(byte)
 }
 
-// The same for what is on the heap.
+// The same for what is on the heap. One generic function would take what fills as a closure, and ask that it may be called at each index: no plainer.
 pub fn fill_samples(samples: &mut [f32], nans: &[usize]) {
     for (i, sample) in samples.iter_mut().enumerate() {
         *sample = sample_in(Channel::First, nans, i);
