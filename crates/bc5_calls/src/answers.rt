@@ -1,71 +1,62 @@
 // What the calls that take samples answer, and how a line shows it.
 use bc4::word::Word;
-use bc5::{Encoded, Options, Resent, Scored};
-use cases::show;
-use std::io;
+use bc5::{Errors, Halves, Kept};
+use cases::show::{Answer, Bits, Block, if_set};
+use std::fmt::Display;
+use std::{fmt, io};
 
-fn encoded(rt: &impl Print, e: Encoded) -> io::Result<()> {
-    match e {
-        Encoded::Refused(q) => show::refused(rt, q),
-        Encoded::Block(b) => {
-            show::block(rt, b.first)?;
-            show::block(rt, b.second)
-        }
+#[derive(Clone, Copy)]
+struct Encoded(Halves);
+
+impl Display for Encoded {
+    fn fmt<W: fmt::Write>(&self, f: &mut fmt::Formatter<W>) -> fmt::Result {
+        write!(f, "{}{}", Block(self.0.first), Block(self.0.second))
     }
 }
 
 // Both errors by their bits.
-fn scored(rt: &impl Print, s: Scored) -> io::Result<()> {
-    match s {
-        Scored::Refused(q) => show::refused(rt, q),
-        Scored::Errors(e) => {
-            show::float(rt, e.first)?;
-            show::text(rt, " ")?;
-            show::float(rt, e.second)
-        }
+#[derive(Clone, Copy)]
+struct Scored(Errors);
+
+impl Display for Scored {
+    fn fmt<W: fmt::Write>(&self, f: &mut fmt::Formatter<W>) -> fmt::Result {
+        write!(f, "{} {}", Bits(self.0.first), Bits(self.0.second))
     }
 }
 
 // The bytes to hold, and which halves of them are fresh.
-fn resent(rt: &impl Print, r: Resent) -> io::Result<()> {
-    match r {
-        Resent::Refused(q) => show::refused(rt, q),
-        Resent::Block(k) => {
-            let first = k.first;
-            let second = k.second;
-            show::block(rt, first.block)?;
-            show::block(rt, second.block)?;
-            show::option(rt, first.fresh, " fresh first")?;
-            show::option(rt, second.fresh, " fresh second")
-        }
+#[derive(Clone, Copy)]
+struct Resent(Kept);
+
+impl Display for Resent {
+    fn fmt<W: fmt::Write>(&self, f: &mut fmt::Formatter<W>) -> fmt::Result {
+        let Kept { first, second } = self.0;
+        write!(
+            f,
+            "{}{}{}{}",
+            Block(first.block),
+            Block(second.block),
+            if_set(first.fresh, " fresh first"),
+            if_set(second.fresh, " fresh second")
+        )
     }
 }
 
-pub fn by_options(
-    rt: &impl Print,
-    first: &[f32],
-    second: &[f32],
-    held: &[u8],
-    o: Options,
-) -> io::Result<()> {
-    show::text(rt, ": encode ")?;
-    encoded(rt, bc5::encode_block(first, second, o))?;
-    show::text(rt, "; error ")?;
-    scored(rt, bc5::block_error(first, second, held, o.snorm))?;
-    show::text(rt, "; resend ")?;
-    resent(rt, bc5::resend(first, second, held, o))
-}
-
-pub fn by_word(
+// By the options of a word, and by the word itself.
+pub fn told(
     rt: &impl Print,
     first: &[f32],
     second: &[f32],
     held: &[u8],
     w: Word,
 ) -> io::Result<()> {
-    show::text(rt, "; by word encode ")?;
-    encoded(rt, bc5::word::encode_block(first, second, w))?;
-    show::text(rt, ", resend ")?;
-    resent(rt, bc5::word::resend(first, second, held, w))?;
-    show::text(rt, "\n")
+    let o = w.options;
+    println!(rt;
+        ": encode {}; error {}; resend {}; by word encode {}, resend {}",
+        Answer(bc5::encode_block(first, second, o).map(Encoded)),
+        Answer(bc5::block_error(first, second, held, o.snorm).map(Scored)),
+        Answer(bc5::resend(first, second, held, o).map(Resent)),
+        Answer(bc5::word::encode_block(first, second, w).map(Encoded)),
+        Answer(bc5::word::resend(first, second, held, w).map(Resent)),
+    )
 }

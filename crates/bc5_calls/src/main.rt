@@ -9,20 +9,11 @@ mod worked;
 
 use std::io;
 
-// The cases that are made of their number.
-fn numbered(rt: &impl Print, k: usize) -> io::Result<()> {
-    if k < 89 {
-        return refusals::numbered(rt, k);
-    }
-    worked::numbered(rt, k - 89)
-}
-
 fn main(rt: HostRuntime) -> io::Result<()> {
     refusals::cases(&rt)?;
     decoding::cases(&rt)?;
     worked::cases(&rt)?;
-    for k in 0..98usize {
-        numbered(&rt, k)?;
-    }
-    Ok(())
+    refusals::each_nan(&rt)?;
+    refusals::each_set(&rt)?;
+    worked::each_half(&rt)
 }

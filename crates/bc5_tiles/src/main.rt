@@ -6,40 +6,38 @@ mod tiles;
 mod views;
 
 use cases::given;
-use given::FARTHEST;
+use given::{FARTHEST, Lent};
 use std::io;
+use tiles::Tile;
 
-fn side(k: usize) -> usize {
-    match k {
-        0 => 0,
-        1 => 6,
-        2 => 1024,
-        3 => 1026,
-        4 => 1028,
-        _ => FARTHEST,
-    }
-}
+// 0, no multiple of 4, right, too large and no multiple of 4, too large.
+const SIDES: [usize; 6] = [0, 6, 1024, 1026, 1028, FARTHEST];
 
-// The cases that are made of their number. The last are sizes, each side with each: 0, no multiple of 4, right, too large and no multiple of 4, too large. All
-// that is looked at after the size is wrong too.
-fn numbered(rt: &impl Print, k: usize) -> io::Result<()> {
-    if k < 57 {
-        return tiles::numbered(rt, k);
+// Each side with each. All that is looked at after the size is wrong too.
+fn sizes(rt: &impl Print) -> io::Result<()> {
+    for height in SIDES {
+        for width in SIDES {
+            let tile = Tile {
+                width,
+                height,
+                first: Lent::new(17, &[3]),
+                second: Lent::new(17, &[3]),
+                room: 4,
+                snorm: false,
+            };
+            tiles::tiled(rt, tile)?;
+            views::viewed(rt, width, height, 17, FARTHEST, FARTHEST)?;
+        }
     }
-    if k < 69 {
-        return views::numbered(rt, k - 57);
-    }
-    let width = side((k - 69) % 6);
-    let height = side((k - 69) / 6);
-    tiles::tiled(rt, width, height, 17, 3, 17, 3, 4, false)?;
-    views::viewed(rt, width, height, 17, FARTHEST, FARTHEST)
+    Ok(())
 }
 
 fn main(rt: HostRuntime) -> io::Result<()> {
     tiles::cases(&rt)?;
     views::cases(&rt)?;
-    for k in 0..105usize {
-        numbered(&rt, k)?;
-    }
-    Ok(())
+    tiles::each_count(&rt)?;
+    tiles::each_nan(&rt)?;
+    tiles::each_set(&rt)?;
+    views::each_place(&rt)?;
+    sizes(&rt)
 }

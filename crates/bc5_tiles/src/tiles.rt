@@ -1,213 +1,174 @@
 // Encode tile: refusals 1, 9, 10, 2, 4 and 7. A line shows the answer by options and by a malformed word, for which 8 comes last, and after each all of the
-// lent output by its checksum, the bytes past what is written included. Of each channel a case says how many samples it has, and where one is NaN.
+// lent output by its checksum, the bytes past what is written included.
 use bc4::word::Word;
-use bc5::{Options, Tiled};
-use cases::{given, show};
-use given::{FAR, NONE};
+use bc5::Options;
+use cases::given;
+use cases::show::{Answer, Nans, Written, checksum, format};
+use given::{FAR, Lent, OPTIONS};
 use refusal::Channel;
 use std::io;
 
-fn shown(rt: &impl Print, t: Tiled, out: &[u8; 4128]) -> io::Result<()> {
-    match t {
-        Tiled::Refused(q) => show::refused(rt, q)?,
-        Tiled::Written(n) => {
-            show::text(rt, "written ")?;
-            show::number(rt, n)?;
+// A tile of two channels, into the first `room` bytes.
+#[derive(Clone, Copy)]
+pub struct Tile<'a> {
+    pub width: usize,
+    pub height: usize,
+    pub first: Lent<'a>,
+    pub second: Lent<'a>,
+    pub room: usize,
+    pub snorm: bool,
+}
+
+impl<'a> Tile<'a> {
+    // As many bytes as samples of a channel.
+    fn new(width: usize, height: usize, count: usize) -> Self {
+        Self {
+            width,
+            height,
+            first: Lent::new(count, &[]),
+            second: Lent::new(count, &[]),
+            room: count,
+            snorm: false,
         }
     }
-    show::text(rt, ", out ")?;
-    show::checksum(rt, out)
+
+    // A size that is no square, and right.
+    fn right() -> Self {
+        Self::new(12, 8, 96)
+    }
+
+    fn lending(first: Lent<'a>, second: Lent<'a>) -> Self {
+        Self {
+            first,
+            second,
+            ..Self::right()
+        }
+    }
 }
 
-// Into the first `room` bytes.
-fn by_options(
-    rt: &impl Print,
-    first: &[f32],
-    second: &[f32],
-    width: usize,
-    height: usize,
-    room: usize,
-    o: Options,
-) -> io::Result<()> {
+fn named(rt: &impl Print, t: Tile<'_>) -> io::Result<()> {
+    print!(rt;
+        "tile {} by {}, {} beside {} samples into {} bytes{}, {}",
+        t.width,
+        t.height,
+        t.first,
+        t.second.count,
+        t.room,
+        Nans(t.second.nans),
+        format(t.snorm),
+    )
+}
+
+pub fn tiled(rt: &impl Print, t: Tile<'_>) -> io::Result<()> {
+    named(rt, t)?;
+    let a: [f32; 4112] = given::samples(Channel::First, t.first.nans);
+    let b: [f32; 4112] = given::samples(Channel::Second, t.second.nans);
+    let first = given::first(&a, t.first.count);
+    let second = given::first(&b, t.second.count);
+    let options = Options {
+        snorm: t.snorm,
+        ..OPTIONS
+    };
+    let word = Word {
+        options,
+        malformed: true,
+    };
     let mut out = [0xa5u8; 4128];
-    if room <= 4128 {
-        let t = bc5::encode_tile(first, second, width, height, o, &mut out[0..room]);
-        shown(rt, t, &out)?;
+    let part = given::first_mut(&mut out, t.room);
+    let told = bc5::encode_tile(first, second, t.width, t.height, options, part);
+    print!(rt;
+        ": {}, out {:08x}",
+        Answer(told.map(Written)),
+        checksum(&out)
+    )?;
+    out.fill(0xa5);
+    let part = given::first_mut(&mut out, t.room);
+    let told = bc5::word::encode_tile(first, second, t.width, t.height, word, part);
+    println!(rt;
+        ", by word {}, out {:08x}",
+        Answer(told.map(Written)),
+        checksum(&out)
+    )
+}
+
+// Each count with each.
+pub fn each_count(rt: &impl Print) -> io::Result<()> {
+    for second in [95, 96, 97] {
+        for first in [95, 96, 97] {
+            let first = Lent::new(first, &[]);
+            let second = Lent::new(second, &[]);
+            tiled(rt, Tile::lending(first, second))?;
+        }
     }
     Ok(())
 }
 
-fn by_word(
-    rt: &impl Print,
-    first: &[f32],
-    second: &[f32],
-    width: usize,
-    height: usize,
-    room: usize,
-    w: Word,
-) -> io::Result<()> {
-    let mut out = [0xa5u8; 4128];
-    if room <= 4128 {
-        let t = bc5::word::encode_tile(first, second, width, height, w, &mut out[0..room]);
-        shown(rt, t, &out)?;
+// Each place of a NaN with each: 96 is past the end of what is lent.
+pub fn each_nan(rt: &impl Print) -> io::Result<()> {
+    let places: [&[usize]; 4] = [&[], &[0], &[95], &[96]];
+    for second in places {
+        for first in places {
+            let first = Lent::new(96, first);
+            let second = Lent::new(96, second);
+            tiled(rt, Tile::lending(first, second))?;
+        }
     }
     Ok(())
 }
 
-fn answer(
-    rt: &impl Print,
-    first: &[f32],
-    second: &[f32],
-    width: usize,
-    height: usize,
-    room: usize,
-    o: Options,
-) -> io::Result<()> {
-    show::text(rt, ": ")?;
-    by_options(rt, first, second, width, height, room, o)?;
-    show::text(rt, ", by word ")?;
-    by_word(
-        rt,
-        first,
-        second,
-        width,
-        height,
-        room,
-        Word {
-            options: o,
-            malformed: true,
-        },
-    )?;
-    show::text(rt, "\n")
-}
-
-fn named(
-    rt: &impl Print,
-    width: usize,
-    height: usize,
-    first: usize,
-    nan: usize,
-    second: usize,
-    nan_there: usize,
-    room: usize,
-    snorm: bool,
-) -> io::Result<()> {
-    show::text(rt, "tile ")?;
-    show::size(rt, width, height)?;
-    show::text(rt, ", ")?;
-    show::sample_count(rt, first)?;
-    show::nans(rt, nan, NONE)?;
-    show::text(rt, " beside ")?;
-    show::counts(rt, second, " into ", room)?;
-    show::nans(rt, nan_there, NONE)?;
-    show::format(rt, snorm)
-}
-
-pub fn tiled(
-    rt: &impl Print,
-    width: usize,
-    height: usize,
-    first: usize,
-    nan: usize,
-    second: usize,
-    nan_there: usize,
-    room: usize,
-    snorm: bool,
-) -> io::Result<()> {
-    named(
-        rt, width, height, first, nan, second, nan_there, room, snorm,
-    )?;
-    let mut a = [0.0f32; 4112];
-    given::fill_channel(Channel::First, &mut a, nan, NONE);
-    let mut b = [0.0f32; 4112];
-    given::fill_channel(Channel::Second, &mut b, nan_there, NONE);
-    answer(
-        rt,
-        given::first_samples(&a, first),
-        given::first_samples(&b, second),
-        width,
-        height,
-        room,
-        given::options(false, snorm, false),
-    )
-}
-
-// As many bytes as samples of a channel.
-fn sized(rt: &impl Print, width: usize, height: usize, count: usize) -> io::Result<()> {
-    tiled(rt, width, height, count, NONE, count, NONE, count, false)
-}
-
-fn into(rt: &impl Print, room: usize, snorm: bool) -> io::Result<()> {
-    tiled(rt, 12, 8, 96, NONE, 96, NONE, room, snorm)
-}
-
-// 0 is none, and 3 past the end of what is lent.
-fn nan_place(k: usize) -> usize {
-    match k {
-        0 => NONE,
-        1 => 0,
-        2 => 95,
-        _ => 96,
+// Every set of faults but NaN.
+fn each_fault(rt: &impl Print, first_nans: &[usize], second_nans: &[usize]) -> io::Result<()> {
+    for room in [96, 95] {
+        for second in [96, 97] {
+            for first in [96, 95] {
+                let first = Lent::new(first, first_nans);
+                let second = Lent::new(second, second_nans);
+                let lent = Tile::lending(first, second);
+                tiled(rt, Tile { room, ..lent })?;
+            }
+        }
     }
+    Ok(())
 }
 
-fn if_set(bit: usize, wrong: usize, right: usize) -> usize {
-    if bit == 1 {
-        return wrong;
-    }
-    right
+pub fn each_set(rt: &impl Print) -> io::Result<()> {
+    each_fault(rt, &[], &[])?;
+    each_fault(rt, &[94], &[])?;
+    each_fault(rt, &[], &[37])?;
+    each_fault(rt, &[94], &[37])
 }
 
-// Each count with each; each place of a NaN with each; then every set of faults, by its bits: first count, second count, room, NaN in the first channel, NaN in
-// the second.
-pub fn numbered(rt: &impl Print, k: usize) -> io::Result<()> {
-    if k < 9 {
-        return tiled(rt, 12, 8, 95 + k % 3, NONE, 95 + k / 3, NONE, 96, false);
+fn sizes(rt: &impl Print) -> io::Result<()> {
+    for (width, height, count) in [
+        (4, 4, 16),
+        (0, 4, 0),
+        (4, 0, 0),
+        (6, 4, 24),
+        (4, 6, 24),
+        (1024, 4, 4096),
+        (4, 1024, 4096),
+        (1028, 4, 4112),
+        (4, 1028, 4112),
+        (FAR, 4, 16),
+        (4, FAR, 16),
+    ] {
+        tiled(rt, Tile::new(width, height, count))?;
     }
-    if k < 25 {
-        return tiled(
-            rt,
-            12,
-            8,
-            96,
-            nan_place((k - 9) % 4),
-            96,
-            nan_place((k - 9) / 4),
-            96,
-            false,
-        );
-    }
-    let set = k - 25;
-    tiled(
-        rt,
-        12,
-        8,
-        if_set(set % 2, 95, 96),
-        if_set(set / 8 % 2, 94, NONE),
-        if_set(set / 2 % 2, 97, 96),
-        if_set(set / 16 % 2, 37, NONE),
-        if_set(set / 4 % 2, 95, 96),
-        false,
-    )
+    Ok(())
 }
 
 pub fn cases(rt: &impl Print) -> io::Result<()> {
-    sized(rt, 4, 4, 16)?;
-    sized(rt, 0, 4, 0)?;
-    sized(rt, 4, 0, 0)?;
-    sized(rt, 6, 4, 24)?;
-    sized(rt, 4, 6, 24)?;
-    sized(rt, 1024, 4, 4096)?;
-    sized(rt, 4, 1024, 4096)?;
-    sized(rt, 1028, 4, 4112)?;
-    sized(rt, 4, 1028, 4112)?;
-    sized(rt, FAR, 4, 16)?;
-    sized(rt, 4, FAR, 16)?;
-    into(rt, 0, false)?;
-    into(rt, 48, false)?;
-    into(rt, 97, false)?;
-    into(rt, 4128, false)?;
-    into(rt, 96, true)?;
-    tiled(rt, 8, 12, 96, NONE, 96, 37, 96, false)?;
-    tiled(rt, 4, 1024, 4096, NONE, 4096, 4095, 4096, false)
+    sizes(rt)?;
+    let right = Tile::right();
+    for room in [0, 48, 97, 4128] {
+        tiled(rt, Tile { room, ..right })?;
+    }
+    let snorm = true;
+    tiled(rt, Tile { snorm, ..right })?;
+    let tall = Tile::new(8, 12, 96);
+    let second = Lent::new(96, &[37]);
+    tiled(rt, Tile { second, ..tall })?;
+    let tallest = Tile::new(4, 1024, 4096);
+    let second = Lent::new(4096, &[4095]);
+    tiled(rt, Tile { second, ..tallest })
 }
