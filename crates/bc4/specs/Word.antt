@@ -4,6 +4,7 @@
 --   byte 2  0 Round, 1 medium, 2 high
 --   byte 3  0
 -- Any other value of bytes 2 and 3 makes the word malformed: refusal 8, after all others.
+use Rattle.bc4.specs.declared.Kept.{Kept}
 use Rattle.std.specs.Prelude.{Bool, cond, not, ◌||◌, List, ℕ, ◌/◌, ◌%◌, ◌^◌, eqb, ltb, Float}
 use Rattle.options.specs.declared.Options.{Options}
 use Rattle.options.specs.declared.Quantization.{Quantization}

@@ -1,4 +1,6 @@
 -- The calls on two channels that take their options as a word, as `bc4` reads it; 8 is refused after all others.
+use Rattle.bc5.specs.declared.Halves.{Halves}
+use Rattle.bc5.specs.declared.Kept.{Kept}
 use Rattle.std.specs.Prelude.{List, ℕ, Float}
 use Rattle.place.specs.Place.{bc5_size, encoded_length}
 use Rattle.refusal.specs.Refusals.{Answer, first_of, answered, and_word}

@@ -1,5 +1,6 @@
 -- How the answers of `bc4` cross to C: a refusal's number, with 0 for none, and what each lent place holds after the call. A refused call leaves
 -- every place as it was, but for the four numbers of the detail, which a refusal that has something to say writes.
+use Rattle.bc4.specs.declared.Kept.{Kept}
 use Rattle.std.specs.Prelude.{cond, List, ℕ, ◌/◌, ◌%◌, ◌^◌, Float}
 use Rattle.index_list.specs.Layout.{bytes_of}
 use Rattle.place.specs.Place.{bc4_size, block_at}

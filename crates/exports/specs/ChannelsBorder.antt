@@ -1,4 +1,7 @@
 -- How the answers of `bc5` cross to C: what each lent place holds after the call. A refused call leaves them as they were.
+use Rattle.bc5.specs.declared.Errors.{Errors as BothErrors}
+use Rattle.bc5.specs.declared.Halves.{Halves}
+use Rattle.bc5.specs.declared.Kept.{Kept}
 use Rattle.std.specs.Prelude.{cond, List, [], ◌∷◌, ◌++◌, ℕ, Float}
 use Rattle.index_list.specs.Layout.{bytes_of}
 use Rattle.place.specs.Place.{bc5_size, block_at}

@@ -1,4 +1,5 @@
 -- How the answers of `dds` cross to C: what each lent place holds after the call. A refused call leaves them as they were.
+use Rattle.dds.specs.declared.Picture.{Picture}
 use Rattle.std.specs.Prelude.{cond, ℕ}
 use Rattle.refusal.specs.Refusals.{Answer}
 use Rattle.core.specs.declared.result.Result.TheVariants.{Ok, Err}

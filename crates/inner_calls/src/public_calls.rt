@@ -1,6 +1,4 @@
 // The public calls on sixteen samples and eight bytes, the options as bytes 0, 1 and 2 of a word whose byte 3 is 0. An answer is 0, or the number of the refusal; what comes with it is in `out`.
-use bc4::{Checked, Encoded, Resent, Scored};
-
 #[unsafe(no_mangle)]
 pub extern "C" fn inner_encode_block(
     samples: &[f32; 16],
@@ -9,10 +7,9 @@ pub extern "C" fn inner_encode_block(
     quality: u8,
     out: &mut u64,
 ) -> u8 {
-    let encoded = bc4::word::encode_block(samples, bc4::word::read(flags, limit, quality, 0));
-    match encoded {
-        Encoded::Refused(q) => bc4::number(q),
-        Encoded::Block(b) => {
+    match bc4::word::encode_block(samples, bc4::word::read(flags, limit, quality, 0)) {
+        Err(q) => bc4::number(q),
+        Ok(b) => {
             *out = b;
             0
         }
@@ -21,10 +18,9 @@ pub extern "C" fn inner_encode_block(
 
 #[unsafe(no_mangle)]
 pub extern "C" fn inner_decode_block(encoded: &[u8; 8], snorm: bool, out: &mut [f32; 16]) -> u8 {
-    let checked = bc4::decode_block(encoded, snorm, out);
-    match checked {
-        Checked::Refused(q) => bc4::number(q),
-        Checked::Passed => 0,
+    match bc4::decode_block(encoded, snorm, out) {
+        Err(q) => bc4::number(q),
+        Ok(()) => 0,
     }
 }
 
@@ -35,10 +31,9 @@ pub extern "C" fn inner_block_error(
     snorm: bool,
     out: &mut f32,
 ) -> u8 {
-    let scored = bc4::block_error(samples, encoded, snorm);
-    match scored {
-        Scored::Refused(q) => bc4::number(q),
-        Scored::Error(x) => {
+    match bc4::block_error(samples, encoded, snorm) {
+        Err(q) => bc4::number(q),
+        Ok(x) => {
             *out = x;
             0
         }
@@ -55,10 +50,9 @@ pub extern "C" fn inner_resend(
     out: &mut u64,
     fresh: &mut bool,
 ) -> u8 {
-    let resent = bc4::word::resend(samples, held, bc4::word::read(flags, limit, quality, 0));
-    match resent {
-        Resent::Refused(q) => bc4::number(q),
-        Resent::Block(h) => {
+    match bc4::word::resend(samples, held, bc4::word::read(flags, limit, quality, 0)) {
+        Err(q) => bc4::number(q),
+        Ok(h) => {
             *out = h.block;
             *fresh = h.fresh;
             0
