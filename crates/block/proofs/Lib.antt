@@ -1,4 +1,5 @@
 pub mod Fill
+pub mod Made
 pub mod Lanes
 pub mod Extremes
 pub mod Laws
