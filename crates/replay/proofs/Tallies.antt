@@ -1,0 +1,29 @@
+-- How much a buffer adds to a tally.
+use Rattle.std.proofs.Common.{◌≡◌, ℕ, zero, suc, ◌+◌, ◌*◌, ◌/◌, ◌<◌, ◌≤◌, List, [], Bool, true, false, cond, length, take, drop, get_or, refl, ◌∙◌, absurd, arith}
+use lib.Seq.{drop-drop}
+use Rattle.std.specs.Simd.{first_chunks}
+use Rattle.replay.specs.declared.Tally.{Tally}
+use Rattle.replay.specs.Entry.{differs_of, entry_at, differing_to, tallied}
+
+-- entry i among the whole ones
+pub chunk_at : (xs : List ℕ) (k i : ℕ) → i < k → get_or (first_chunks 76 k xs) i [] ≡ entry_at xs i
+chunk_at xs zero i h = absurd (omega arith)
+chunk_at xs (suc k) zero h = refl
+chunk_at xs (suc k) (suc i) h =
+    let next : 76 + i * 76 ≡ suc i * 76 = omega arith in
+    chunk_at (drop 76 xs) k i (omega arith) ∙ rw (drop-drop, next) refl
+
+one_more : (d : Bool) (m n : ℕ) → m ≤ n → m + cond d 1 0 ≤ suc n
+one_more true m n h = omega arith
+one_more false m n h = omega arith
+
+pub differing_le : (input : List ℕ) (n : ℕ) → differing_to input n ≤ n
+unfolding differing_to
+differing_le input zero = omega arith
+differing_le input (suc n) = one_more (differs_of (entry_at input n)) (differing_to input n) n (differing_le input n)
+
+-- a buffer adds at most 860 records
+pub tally_most : (records differ : ℕ) (input : List ℕ) {t : Tally} → t ≡ tallied records differ input → length input ≤ 65360 → differ ≤ records
+    → (t.records ≤ records + 860) × (t.differ ≤ t.records)
+unfolding tallied
+tally_most records differ input {t} e l d = let some = differing_le input (length input / 76) in rw e (omega arith, omega arith)
