@@ -1,114 +1,112 @@
 // Encode block: refusals 2 and 7.
-use bc4::{Encoded, Options};
-use cases::{given, show};
-use given::{NONE, Sixteen};
+use bc4::Options;
+use cases::given;
+use cases::show::{Answer, Block, Nans, format, if_set};
+use given::{OPTIONS, Sixteen};
+use refusal::Channel;
 use std::io;
 
-pub fn shown(rt: &impl Print, e: Encoded) -> io::Result<()> {
-    match e {
-        Encoded::Refused(q) => show::refused(rt, q),
-        Encoded::Block(b) => show::block(rt, b),
-    }
-}
-
-fn answer(rt: &impl Print, samples: &[f32], o: Options) -> io::Result<()> {
-    show::text(rt, ": ")?;
-    shown(rt, bc4::encode_block(samples, o))?;
-    show::text(rt, "\n")
-}
-
-// With NaN at two indexes or none.
-fn counted(rt: &impl Print, count: usize, first: usize, second: usize) -> io::Result<()> {
-    let s = given::samples(first, second);
-    show::text(rt, "encode ")?;
-    show::sample_count(rt, count)?;
-    show::nans(rt, first, second)?;
-    answer(
-        rt,
-        given::first_samples(&s, count),
-        given::options(false, false, false),
+fn counted(rt: &impl Print, count: usize, nans: &[usize]) -> io::Result<()> {
+    let s: [f32; 17] = given::samples(Channel::First, nans);
+    let told = bc4::encode_block(given::first(&s, count), OPTIONS);
+    println!(rt;
+        "encode {count} samples{}: {}",
+        Nans(nans),
+        Answer(told.map(|b| Block(b)))
     )
 }
 
-fn valued(
-    rt: &impl Print,
-    what: Sixteen,
-    dither: bool,
-    snorm: bool,
-    search: bool,
-) -> io::Result<()> {
-    let s = given::block(what);
-    show::text(rt, "encode ")?;
-    show::samples(rt, what)?;
-    show::format(rt, snorm)?;
-    show::option(rt, dither, ", dither")?;
-    show::option(rt, search, ", search")?;
-    answer(rt, &s, given::options(dither, snorm, search))
+fn valued(rt: &impl Print, what: Sixteen, o: Options) -> io::Result<()> {
+    let told = bc4::encode_block(&given::block(what), o);
+    println!(rt;
+        "encode {what}, {}{}{}: {}",
+        format(o.snorm),
+        if_set(o.dither, ", dither"),
+        if_set(o.brute_force, ", search"),
+        Answer(told.map(|b| Block(b))),
+    )
 }
 
 fn counts(rt: &impl Print) -> io::Result<()> {
-    counted(rt, 0, NONE, NONE)?;
-    counted(rt, 7, NONE, NONE)?;
-    counted(rt, 8, NONE, NONE)?;
-    counted(rt, 9, NONE, NONE)?;
-    counted(rt, 15, NONE, NONE)?;
-    counted(rt, 16, NONE, NONE)?;
-    counted(rt, 17, NONE, NONE)
+    for count in [0, 7, 8, 9, 15, 16, 17] {
+        counted(rt, count, &[])?;
+    }
+    Ok(())
 }
 
 fn nans(rt: &impl Print) -> io::Result<()> {
-    counted(rt, 16, 0, NONE)?;
-    counted(rt, 16, 15, NONE)?;
-    counted(rt, 16, 4, 9)?;
-    counted(rt, 16, 0, 15)?;
+    counted(rt, 16, &[0])?;
+    counted(rt, 16, &[15])?;
+    counted(rt, 16, &[4, 9])?;
+    counted(rt, 16, &[0, 15])?;
     // past the end of what is lent
-    counted(rt, 16, 16, NONE)?;
+    counted(rt, 16, &[16])?;
     // 2 with 7
-    counted(rt, 15, 3, NONE)?;
-    counted(rt, 17, 3, NONE)?;
-    counted(rt, 17, 16, NONE)
+    counted(rt, 15, &[3])?;
+    counted(rt, 17, &[3])?;
+    counted(rt, 17, &[16])
 }
+
+// What a case says of the options, plain where it says nothing.
+const SIGNED: Options = Options {
+    snorm: true,
+    ..OPTIONS
+};
+
+const DITHER: Options = Options {
+    dither: true,
+    ..OPTIONS
+};
+
+const SIGNED_DITHER: Options = Options {
+    dither: true,
+    ..SIGNED
+};
+
+const SEARCH: Options = Options {
+    brute_force: true,
+    ..OPTIONS
+};
+
+const SIGNED_SEARCH: Options = Options {
+    brute_force: true,
+    ..SIGNED
+};
 
 fn values(rt: &impl Print) -> io::Result<()> {
-    valued(rt, Sixteen::Slopes, false, false, false)?;
-    valued(rt, Sixteen::Slopes, false, true, false)?;
-    valued(rt, Sixteen::Slopes, true, false, false)?;
-    valued(rt, Sixteen::Slopes, true, true, false)?;
-    valued(rt, Sixteen::Slopes, false, false, true)?;
-    valued(rt, Sixteen::Slopes, false, true, true)
-}
-
-fn flat(rt: &impl Print) -> io::Result<()> {
-    valued(rt, Sixteen::Zeros, false, false, false)?;
-    valued(rt, Sixteen::Zeros, false, true, false)?;
-    valued(rt, Sixteen::Zeros, false, false, true)?;
-    valued(rt, Sixteen::Ones, false, false, false)?;
-    valued(rt, Sixteen::Ones, false, true, false)?;
-    valued(rt, Sixteen::Ones, false, false, true)
+    for o in [
+        OPTIONS,
+        SIGNED,
+        DITHER,
+        SIGNED_DITHER,
+        SEARCH,
+        SIGNED_SEARCH,
+    ] {
+        valued(rt, Sixteen::Slopes, o)?;
+    }
+    for flat in [Sixteen::Zeros, Sixteen::Ones] {
+        for o in [OPTIONS, SIGNED, SEARCH] {
+            valued(rt, flat, o)?;
+        }
+    }
+    Ok(())
 }
 
 // Infinite samples are clamped: the same bytes as 0 and 1.
 fn infinite(rt: &impl Print) -> io::Result<()> {
-    valued(rt, Sixteen::ZeroAndOne, false, false, false)?;
-    valued(rt, Sixteen::BothInfinite, false, false, false)?;
-    valued(rt, Sixteen::ZeroAndOne, false, true, false)?;
-    valued(rt, Sixteen::BothInfinite, false, true, false)?;
-    valued(rt, Sixteen::ZeroAndOne, true, false, false)?;
-    valued(rt, Sixteen::BothInfinite, true, false, false)
-}
-
-fn infinite_flat(rt: &impl Print) -> io::Result<()> {
-    valued(rt, Sixteen::Infinite, false, false, false)?;
-    valued(rt, Sixteen::Infinite, false, false, true)?;
-    valued(rt, Sixteen::MinusInfinite, false, true, false)?;
-    valued(rt, Sixteen::MinusInfinite, false, false, true)
+    for o in [OPTIONS, SIGNED, DITHER] {
+        valued(rt, Sixteen::ZeroAndOne, o)?;
+        valued(rt, Sixteen::BothInfinite, o)?;
+    }
+    valued(rt, Sixteen::Infinite, OPTIONS)?;
+    valued(rt, Sixteen::Infinite, SEARCH)?;
+    valued(rt, Sixteen::MinusInfinite, SIGNED)?;
+    valued(rt, Sixteen::MinusInfinite, SEARCH)
 }
 
 pub fn cases(rt: &impl Print) -> io::Result<()> {
     counts(rt)?;
     nans(rt)?;
     values(rt)?;
-    flat(rt)?;
-    infinite(rt)?;
-    infinite_flat(rt)
+    infinite(rt)
 }

@@ -1,16 +1,15 @@
 // The endpoint bytes of two floats that are the same, an inner function: the run value of document 01, and those that are proved.
-use cases::show;
+use cases::show::{Hex, format};
 use end_points::EndPoints;
 use std::io;
 
 fn six(rt: &impl Print, named: &str, x: f32, snorm: bool) -> io::Result<()> {
     let e = EndPoints::new_inter6(x, x, snorm);
-    show::text(rt, "six-value ends of ")?;
-    show::text(rt, named)?;
-    show::format(rt, snorm)?;
-    show::text(rt, ": ")?;
-    show::bytes(rt, &[e.c0, e.c1])?;
-    show::text(rt, "\n")
+    println!(rt;
+        "six-value ends of {named}, {}: {}",
+        format(snorm),
+        Hex(&[e.c0, e.c1])
+    )
 }
 
 pub fn cases(rt: &impl Print) -> io::Result<()> {

@@ -1,105 +1,87 @@
 // Resend: refusals 2, 3, 5 and 7.
-use bc4::{Kept, Options, Resent};
-use cases::{given, show};
-use given::{NONE, Sixteen};
-use std::io;
+use bc4::{Kept, Options};
+use cases::given;
+use cases::show::{Answer, Block, Hex, Nans, format, if_set};
+use given::{OPTIONS, Sixteen};
+use refusal::Channel;
+use std::{fmt, io};
 
 // The bytes to hold, after a word for the flag.
-fn held_or_fresh(rt: &impl Print, h: Kept) -> io::Result<()> {
-    if h.fresh {
-        show::text(rt, "fresh ")?;
-    } else {
-        show::text(rt, "held ")?;
-    }
-    show::block(rt, h.block)
-}
+#[derive(Clone, Copy)]
+struct Held(Kept);
 
-fn shown(rt: &impl Print, r: Resent) -> io::Result<()> {
-    match r {
-        Resent::Refused(q) => show::refused(rt, q),
-        Resent::Block(h) => held_or_fresh(rt, h),
+impl fmt::Display for Held {
+    fn fmt<W: fmt::Write>(&self, f: &mut fmt::Formatter<W>) -> fmt::Result {
+        let word = if self.0.fresh { "fresh" } else { "held" };
+        write!(f, "{word} {}", Block(self.0.block))
     }
 }
 
 fn answer(rt: &impl Print, samples: &[f32], held: &[u8], o: Options) -> io::Result<()> {
-    show::text(rt, ": ")?;
-    shown(rt, bc4::resend(samples, held, o))?;
-    show::text(rt, "\n")
+    let told = bc4::resend(samples, held, o);
+    println!(rt; ": {}", Answer(told.map(|kept| Held(kept))))
 }
 
-// With NaN at one index or none.
 fn counted(
     rt: &impl Print,
     count: usize,
     length: usize,
     dither: bool,
-    nan: usize,
+    nans: &[usize],
 ) -> io::Result<()> {
-    let s = given::samples(nan, NONE);
-    let b = given::bytes();
-    show::text(rt, "resend ")?;
-    show::counts(rt, count, " over ", length)?;
-    show::option(rt, dither, ", dither")?;
-    show::nans(rt, nan, NONE)?;
+    let s: [f32; 17] = given::samples(Channel::First, nans);
+    let b: [u8; 17] = given::bytes();
+    let said = if_set(dither, ", dither");
+    print!(rt;
+        "resend {count} samples over {length} bytes{said}{}",
+        Nans(nans)
+    )?;
     answer(
         rt,
-        given::first_samples(&s, count),
-        given::first_bytes(&b, length),
-        given::options(dither, false, false),
+        given::first(&s, count),
+        given::first(&b, length),
+        Options { dither, ..OPTIONS },
     )
 }
 
 fn valued(rt: &impl Print, what: Sixteen, held: [u8; 8], snorm: bool) -> io::Result<()> {
-    let s = given::block(what);
-    show::text(rt, "resend ")?;
-    show::samples(rt, what)?;
-    show::text(rt, " over ")?;
-    show::bytes(rt, &held)?;
-    show::format(rt, snorm)?;
-    answer(rt, &s, &held, given::options(false, snorm, false))
+    print!(rt; "resend {what} over {}, {}", Hex(&held), format(snorm))?;
+    answer(rt, &given::block(what), &held, Options { snorm, ..OPTIONS })
 }
 
 fn counts(rt: &impl Print) -> io::Result<()> {
-    counted(rt, 0, 8, false, NONE)?;
-    counted(rt, 7, 8, false, NONE)?;
-    counted(rt, 8, 8, false, NONE)?;
-    counted(rt, 9, 8, false, NONE)?;
-    counted(rt, 15, 8, false, NONE)?;
-    counted(rt, 16, 8, false, NONE)?;
-    counted(rt, 17, 8, false, NONE)
-}
-
-fn lengths(rt: &impl Print) -> io::Result<()> {
-    counted(rt, 16, 0, false, NONE)?;
-    counted(rt, 16, 7, false, NONE)?;
-    counted(rt, 16, 9, false, NONE)?;
-    counted(rt, 16, 15, false, NONE)?;
-    counted(rt, 16, 16, false, NONE)?;
-    counted(rt, 16, 17, false, NONE)
+    for count in [0, 7, 8, 9, 15, 16, 17] {
+        counted(rt, count, 8, false, &[])?;
+    }
+    for length in [0, 7, 9, 15, 16, 17] {
+        counted(rt, 16, length, false, &[])?;
+    }
+    Ok(())
 }
 
 fn dither_and_nan(rt: &impl Print) -> io::Result<()> {
-    counted(rt, 16, 8, true, NONE)?;
-    counted(rt, 16, 8, false, 0)?;
-    counted(rt, 16, 8, false, 15)?;
-    counted(rt, 16, 8, false, 16)
+    counted(rt, 16, 8, true, &[])?;
+    for nan in [0, 15, 16] {
+        counted(rt, 16, 8, false, &[nan])?;
+    }
+    Ok(())
 }
 
 fn two_together(rt: &impl Print) -> io::Result<()> {
-    counted(rt, 15, 7, false, NONE)?;
-    counted(rt, 15, 8, true, NONE)?;
-    counted(rt, 15, 8, false, 3)?;
-    counted(rt, 16, 7, true, NONE)?;
-    counted(rt, 16, 7, false, 3)?;
-    counted(rt, 16, 8, true, 3)
+    counted(rt, 15, 7, false, &[])?;
+    counted(rt, 15, 8, true, &[])?;
+    counted(rt, 15, 8, false, &[3])?;
+    counted(rt, 16, 7, true, &[])?;
+    counted(rt, 16, 7, false, &[3])?;
+    counted(rt, 16, 8, true, &[3])
 }
 
 fn more_together(rt: &impl Print) -> io::Result<()> {
-    counted(rt, 17, 9, true, NONE)?;
-    counted(rt, 17, 9, false, 3)?;
-    counted(rt, 17, 8, true, 3)?;
-    counted(rt, 16, 9, true, 3)?;
-    counted(rt, 17, 9, true, 3)
+    counted(rt, 17, 9, true, &[])?;
+    counted(rt, 17, 9, false, &[3])?;
+    counted(rt, 17, 8, true, &[3])?;
+    counted(rt, 16, 9, true, &[3])?;
+    counted(rt, 17, 9, true, &[3])
 }
 
 fn zeros(rt: &impl Print, held: [u8; 8], snorm: bool) -> io::Result<()> {
@@ -146,7 +128,6 @@ fn infinite(rt: &impl Print) -> io::Result<()> {
 
 pub fn cases(rt: &impl Print) -> io::Result<()> {
     counts(rt)?;
-    lengths(rt)?;
     dither_and_nan(rt)?;
     two_together(rt)?;
     more_together(rt)?;

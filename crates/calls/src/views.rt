@@ -1,5 +1,6 @@
 // Block view: refusals 1, 9, 10, 3 and 6. A line shows the part that is handed back and, where that is empty, what `view_refusal` says.
-use cases::{given, show};
+use cases::given;
+use cases::show::{Hex, IfRefused};
 use given::{FAR, FARTHEST};
 use std::io;
 
@@ -11,19 +12,9 @@ pub fn answer(
     column: usize,
     row: usize,
 ) -> io::Result<()> {
-    show::text(rt, ":")?;
-    show::if_refused(rt, bc4::view_refusal(tile, width, height, column, row))?;
-    show::text(rt, " [")?;
-    show::bytes(rt, bc4::block_view(tile, width, height, column, row))?;
-    show::text(rt, "]\n")
-}
-
-pub fn place(rt: &impl Print, column: usize, row: usize) -> io::Result<()> {
-    show::text(rt, "view column ")?;
-    show::number(rt, column)?;
-    show::text(rt, " row ")?;
-    show::number(rt, row)?;
-    show::text(rt, " of ")
+    let told = bc4::view_refusal(tile, width, height, column, row);
+    let view = bc4::block_view(tile, width, height, column, row);
+    println!(rt; ":{} [{}]", IfRefused(told), Hex(view))
 }
 
 fn viewed(
@@ -34,57 +25,53 @@ fn viewed(
     column: usize,
     row: usize,
 ) -> io::Result<()> {
-    let mut t = [0u8; 2056];
-    given::fill_bytes(&mut t);
-    place(rt, column, row)?;
-    show::size(rt, width, height)?;
-    show::text(rt, ", ")?;
-    show::byte_count(rt, length)?;
-    answer(
-        rt,
-        given::first_bytes(&t, length),
-        width,
-        height,
-        column,
-        row,
-    )
+    let t: [u8; 2056] = given::bytes();
+    print!(rt; "view column {column} row {row} of {width} by {height}, {length} bytes")?;
+    answer(rt, given::first(&t, length), width, height, column, row)
 }
 
-fn widths(rt: &impl Print) -> io::Result<()> {
-    viewed(rt, 0, 4, 0, 0, 0)?;
-    viewed(rt, 4, 4, 8, 0, 0)?;
-    viewed(rt, 6, 4, 12, 0, 0)?;
-    viewed(rt, 1024, 4, 2048, 255, 0)?;
-    viewed(rt, 1028, 4, 2056, 256, 0)?;
-    viewed(rt, FAR, 4, 8, 0, 0)
-}
+// Width, height, length, column and row.
+const WIDTHS: [(usize, usize, usize, usize, usize); 6] = [
+    (0, 4, 0, 0, 0),
+    (4, 4, 8, 0, 0),
+    (6, 4, 12, 0, 0),
+    (1024, 4, 2048, 255, 0),
+    (1028, 4, 2056, 256, 0),
+    (FAR, 4, 8, 0, 0),
+];
 
-fn heights(rt: &impl Print) -> io::Result<()> {
-    viewed(rt, 4, 0, 0, 0, 0)?;
-    viewed(rt, 4, 6, 12, 0, 0)?;
-    viewed(rt, 4, 1024, 2048, 0, 255)?;
-    viewed(rt, 4, 1028, 2056, 0, 256)?;
-    viewed(rt, 4, FAR, 8, 0, 0)?;
-    viewed(rt, FAR, FAR, 8, 0, 0)
+const HEIGHTS: [(usize, usize, usize, usize, usize); 6] = [
+    (4, 0, 0, 0, 0),
+    (4, 6, 12, 0, 0),
+    (4, 1024, 2048, 0, 255),
+    (4, 1028, 2056, 0, 256),
+    (4, FAR, 8, 0, 0),
+    (FAR, FAR, 8, 0, 0),
+];
+
+fn sizes(rt: &impl Print) -> io::Result<()> {
+    for (width, height, length, column, row) in WIDTHS {
+        viewed(rt, width, height, length, column, row)?;
+    }
+    for (width, height, length, column, row) in HEIGHTS {
+        viewed(rt, width, height, length, column, row)?;
+    }
+    Ok(())
 }
 
 fn lengths(rt: &impl Print) -> io::Result<()> {
-    viewed(rt, 8, 12, 0, 0, 0)?;
-    viewed(rt, 8, 12, 7, 0, 0)?;
-    viewed(rt, 8, 12, 47, 0, 0)?;
-    viewed(rt, 8, 12, 48, 0, 0)?;
-    viewed(rt, 8, 12, 49, 0, 0)
+    for length in [0, 7, 47, 48, 49] {
+        viewed(rt, 8, 12, length, 0, 0)?;
+    }
+    Ok(())
 }
 
+// One column past the last is not the next row's first: the last place.
 fn places(rt: &impl Print) -> io::Result<()> {
-    viewed(rt, 8, 12, 48, 1, 0)?;
-    viewed(rt, 8, 12, 48, 2, 0)?;
-    viewed(rt, 8, 12, 48, 0, 2)?;
-    viewed(rt, 8, 12, 48, 0, 3)?;
-    viewed(rt, 8, 12, 48, 1, 2)?;
-    viewed(rt, 8, 12, 48, 2, 3)?;
-    // one column past the last is not the next row's first
-    viewed(rt, 8, 12, 48, 2, 1)
+    for (column, row) in [(1, 0), (2, 0), (0, 2), (0, 3), (1, 2), (2, 3), (2, 1)] {
+        viewed(rt, 8, 12, 48, column, row)?;
+    }
+    Ok(())
 }
 
 fn far_places(rt: &impl Print) -> io::Result<()> {
@@ -103,8 +90,7 @@ fn together(rt: &impl Print) -> io::Result<()> {
 }
 
 pub fn cases(rt: &impl Print) -> io::Result<()> {
-    widths(rt)?;
-    heights(rt)?;
+    sizes(rt)?;
     lengths(rt)?;
     places(rt)?;
     far_places(rt)?;

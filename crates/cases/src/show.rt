@@ -1,13 +1,147 @@
-// What a line is made of, on standard output.
-ghost use Rattle.std.specs.Prelude.{◌<◌, not, T};
-ghost use Rattle.std.specs.Float.Ieee.{is_nan};
+// What a line is made of, where it is no number or text.
+use crate::given::Sixteen;
+use bc4::Refusal;
+use std::fmt::Display;
+use std::{fmt, io};
 
-use crate::given;
-use bc4::{Checked, Refusal};
-use given::Sixteen;
-use refusal::{Channel, Fault, Side, Spot};
-use std::io;
+// Two digits for each byte.
+#[derive(Clone, Copy)]
+pub struct Hex<'a>(pub &'a [u8]);
 
+impl Display for Hex<'_> {
+    fn fmt<W: fmt::Write>(&self, f: &mut fmt::Formatter<W>) -> fmt::Result {
+        for b in self.0 {
+            write!(f, "{b:02x}")?;
+        }
+        Ok(())
+    }
+}
+
+// The eight bytes of a block.
+#[derive(Clone, Copy)]
+pub struct Block(pub u64);
+
+impl Display for Block {
+    fn fmt<W: fmt::Write>(&self, f: &mut fmt::Formatter<W>) -> fmt::Result {
+        write!(f, "{}", Hex(&bc4::bytes(self.0)))
+    }
+}
+
+// A float by its bits. A NaN's are not defined.
+#[derive(Clone, Copy)]
+pub struct Bits(pub f32);
+
+impl Display for Bits {
+    fn fmt<W: fmt::Write>(&self, f: &mut fmt::Formatter<W>) -> fmt::Result {
+        if self.0.is_nan() {
+            return f.write_str("nan");
+        }
+        write!(f, "{:08x}", self.0.to_bits())
+    }
+}
+
+// Floats, each after a space.
+#[derive(Clone, Copy)]
+pub struct Floats<'a>(pub &'a [f32]);
+
+impl Display for Floats<'_> {
+    fn fmt<W: fmt::Write>(&self, f: &mut fmt::Formatter<W>) -> fmt::Result {
+        for x in self.0 {
+            write!(f, " {}", Bits(*x))?;
+        }
+        Ok(())
+    }
+}
+
+impl Display for Sixteen {
+    fn fmt<W: fmt::Write>(&self, f: &mut fmt::Formatter<W>) -> fmt::Result {
+        f.write_str(match self {
+            Sixteen::Slopes => "slopes",
+            Sixteen::LaterSlopes => "later slopes",
+            Sixteen::Zeros => "all 0",
+            Sixteen::Ones => "all 1",
+            Sixteen::Infinite => "all inf",
+            Sixteen::MinusInfinite => "all -inf",
+            Sixteen::ZeroAndOne => "0 and 1",
+            Sixteen::BothInfinite => "-inf and inf",
+            Sixteen::BothOutside => "-3.5 and 2.5",
+        })
+    }
+}
+
+// Where samples are NaN: one index, or two, or nothing to say.
+#[derive(Clone, Copy)]
+pub struct Nans<'a>(pub &'a [usize]);
+
+impl Display for Nans<'_> {
+    fn fmt<W: fmt::Write>(&self, f: &mut fmt::Formatter<W>) -> fmt::Result {
+        let mut joint = ", NaN at";
+        for index in self.0 {
+            write!(f, "{joint} {index}")?;
+            joint = " and";
+        }
+        Ok(())
+    }
+}
+
+// What a call answers: what it gives, or why it refuses.
+#[derive(Clone, Copy)]
+pub struct Answer<T>(pub Result<T, Refusal>);
+
+impl<T: Display> Display for Answer<T> {
+    fn fmt<W: fmt::Write>(&self, f: &mut fmt::Formatter<W>) -> fmt::Result {
+        match &self.0 {
+            Ok(given) => write!(f, "{given}"),
+            Err(q) => write!(f, "refused {q}"),
+        }
+    }
+}
+
+// How many bytes a call has written.
+#[derive(Clone, Copy)]
+pub struct Written(pub usize);
+
+impl Display for Written {
+    fn fmt<W: fmt::Write>(&self, f: &mut fmt::Formatter<W>) -> fmt::Result {
+        write!(f, "written {}", self.0)
+    }
+}
+
+// A refusal, if any, before what lent memory holds after the call.
+#[derive(Clone, Copy)]
+pub struct IfRefused(pub Result<(), Refusal>);
+
+impl Display for IfRefused {
+    fn fmt<W: fmt::Write>(&self, f: &mut fmt::Formatter<W>) -> fmt::Result {
+        match self.0 {
+            Ok(()) => Ok(()),
+            Err(q) => write!(f, " refused {q},"),
+        }
+    }
+}
+
+pub fn format(snorm: bool) -> &'static str {
+    if snorm { "signed" } else { "unsigned" }
+}
+
+// A word that a line has or has not.
+pub fn if_set(set: bool, word: &'static str) -> &'static str {
+    if set { word } else { "" }
+}
+
+// All of a buffer in one number: an item that is another, or elsewhere, shows.
+pub fn checksum<T: Copy>(items: &[T]) -> u64
+where
+    u32: From<T>,
+{
+    let mut sum: u64 = 0;
+    for item in items {
+        sum = (sum * 257 + u64::from(u32::from(*item)) + 1) % 4294967291;
+    }
+    sum
+}
+
+// To go: what dds_calls and station_calls print by hand.
 pub fn text(rt: &impl Print, t: &str) -> io::Result<()> {
     rt.print(t)
 }
@@ -17,202 +151,29 @@ pub fn number(rt: &impl Print, n: usize) -> io::Result<()> {
 }
 
 pub fn size(rt: &impl Print, width: usize, height: usize) -> io::Result<()> {
-    number(rt, width)?;
-    text(rt, " by ")?;
-    number(rt, height)
-}
-
-pub fn sample_count(rt: &impl Print, n: usize) -> io::Result<()> {
-    number(rt, n)?;
-    text(rt, " samples")
+    print!(rt; "{width} by {height}")
 }
 
 pub fn byte_count(rt: &impl Print, n: usize) -> io::Result<()> {
-    number(rt, n)?;
-    text(rt, " bytes")
-}
-
-pub fn counts(rt: &impl Print, samples: usize, joint: &str, bytes: usize) -> io::Result<()> {
-    sample_count(rt, samples)?;
-    text(rt, joint)?;
-    byte_count(rt, bytes)
-}
-
-fn wide(b: u8) -> u64
-    ensures { result < 256 }
-{
-    b as u64
+    print!(rt; "{n} bytes")
 }
 
 pub fn bytes(rt: &impl Print, s: &[u8]) -> io::Result<()> {
-    for i in 0..s.len() {
-        print!(rt; "{:02x}", s[i])?;
-    }
-    Ok(())
+    print!(rt; "{}", Hex(s))
 }
 
-pub fn block(rt: &impl Print, b: u64) -> io::Result<()> {
-    let eight = bc4::bytes(b);
-    bytes(rt, &eight)
-}
-
-// A NaN's bits are not defined.
-fn bits(x: f32) -> u32
-    requires { T (not (is_nan x)) }
-{
-    f32::to_bits(x)
-}
-
-pub fn float(rt: &impl Print, x: f32) -> io::Result<()> {
-    if x != x {
-        return text(rt, "nan");
-    }
-    print!(rt; "{:08x}", bits(x))
-}
-
-pub fn floats(rt: &impl Print, x: &[f32; 16]) -> io::Result<()> {
-    for pixel in 0..16usize {
-        text(rt, " ")?;
-        float(rt, x[pixel])?;
-    }
-    Ok(())
-}
-
-// The documents' number, and what comes with it: a side, where a NaN stands, the field of a DDS file, or the channel.
 pub fn refused(rt: &impl Print, q: Refusal) -> io::Result<()> {
-    text(rt, "refused ")?;
-    number(rt, bc4::number(q) as usize)?;
-    match q {
-        Refusal::SideIsZero(s) => side(rt, s),
-        Refusal::SideTooLarge(s) => side(rt, s),
-        Refusal::SideNotMultipleOf4(s) => side(rt, s),
-        Refusal::SampleIsNan(i) => at(rt, i),
-        Refusal::TileSampleIsNan(s) => spot(rt, s),
-        Refusal::DdsHeader(_) => field(rt, q),
-        Refusal::InChannel(f) => fault(rt, f),
-        _ => Ok(())
-    }
+    print!(rt; "refused {q}")
 }
 
-fn side(rt: &impl Print, s: Side) -> io::Result<()> {
-    match s {
-        Side::Width => text(rt, " width"),
-        Side::Height => text(rt, " height"),
-    }
+pub fn if_refused(rt: &impl Print, checked: Result<(), Refusal>) -> io::Result<()> {
+    print!(rt; "{}", IfRefused(checked))
 }
 
-fn at(rt: &impl Print, index: usize) -> io::Result<()> {
-    text(rt, " at ")?;
-    number(rt, index)
+pub fn option(rt: &impl Print, set: bool, word: &'static str) -> io::Result<()> {
+    rt.print(if_set(set, word))
 }
 
-fn spot(rt: &impl Print, s: Spot) -> io::Result<()> {
-    at(rt, s.index)?;
-    text(rt, ", row ")?;
-    number(rt, s.row)?;
-    text(rt, ", column ")?;
-    number(rt, s.column)
-}
-
-fn field(rt: &impl Print, q: Refusal) -> io::Result<()> {
-    let mut detail = [0usize; 4];
-    refusal::detail(q, &mut detail);
-    text(rt, " field ")?;
-    number(rt, detail[0])
-}
-
-fn fault(rt: &impl Print, f: Fault) -> io::Result<()> {
-    match f {
-        Fault::Count(c) => channel(rt, c),
-        Fault::Nan(c, i) => {
-            channel(rt, c)?;
-            at(rt, i)
-        }
-        Fault::TileNan(c, s) => {
-            channel(rt, c)?;
-            spot(rt, s)
-        }
-    }
-}
-
-fn channel(rt: &impl Print, c: Channel) -> io::Result<()> {
-    match c {
-        Channel::First => text(rt, " first"),
-        Channel::Second => text(rt, " second"),
-    }
-}
-
-// The number of a refusal, or 0.
-pub fn checked_number(rt: &impl Print, c: Checked) -> io::Result<()> {
-    match c {
-        Checked::Refused(q) => number(rt, bc4::number(q) as usize),
-        Checked::Passed => number(rt, 0),
-    }
-}
-
-// Before what lent memory holds after the call.
-pub fn if_refused(rt: &impl Print, c: Checked) -> io::Result<()> {
-    if let Checked::Refused(q) = c {
-        text(rt, " ")?;
-        refused(rt, q)?;
-        text(rt, ",")?;
-    }
-    Ok(())
-}
-
-pub fn samples(rt: &impl Print, what: Sixteen) -> io::Result<()> {
-    match what {
-        Sixteen::Slopes => text(rt, "slopes"),
-        Sixteen::LaterSlopes => text(rt, "later slopes"),
-        Sixteen::Zeros => text(rt, "all 0"),
-        Sixteen::Ones => text(rt, "all 1"),
-        Sixteen::Infinite => text(rt, "all inf"),
-        Sixteen::MinusInfinite => text(rt, "all -inf"),
-        Sixteen::ZeroAndOne => text(rt, "0 and 1"),
-        Sixteen::BothInfinite => text(rt, "-inf and inf"),
-        Sixteen::BothOutside => text(rt, "-3.5 and 2.5"),
-    }
-}
-
-pub fn format(rt: &impl Print, snorm: bool) -> io::Result<()> {
-    if snorm {
-        text(rt, ", signed")
-    } else {
-        text(rt, ", unsigned")
-    }
-}
-
-pub fn option(rt: &impl Print, set: bool, name: &str) -> io::Result<()> {
-    if set {
-        text(rt, name)?;
-    }
-    Ok(())
-}
-
-pub fn nans(rt: &impl Print, first: usize, second: usize) -> io::Result<()> {
-    if first != given::NONE {
-        text(rt, ", NaN at ")?;
-        number(rt, first)?;
-    }
-    if second != given::NONE {
-        text(rt, " and ")?;
-        number(rt, second)?;
-    }
-    Ok(())
-}
-
-// All of a buffer in eight hex digits: a byte that is another, or elsewhere, shows.
-pub fn checksum(rt: &impl Print, s: &[u8]) -> io::Result<()> {
-    let mut sum: u64 = 0;
-    for i in 0..s.len() {
-        sum = (sum * 257 + wide(s[i]) + 1) % 4294967291;
-    }
-    print!(rt; "{sum:08x}")
-}
-
-// All of the lent output, at the end of a line.
 pub fn after(rt: &impl Print, out: &[u8]) -> io::Result<()> {
-    text(rt, ", out ")?;
-    checksum(rt, out)?;
-    text(rt, "\n")
+    println!(rt; ", out {:08x}", checksum(out))
 }

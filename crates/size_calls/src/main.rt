@@ -2,144 +2,70 @@
 // of a good size the next number is told. The file stdout beside src/ was worked out by compare/size_calls.py, not by this program.
 #![tactic(auto)]
 
-use bc4::{Checked, Tiled};
-use cases::{given, show};
-use dds::Written;
-use given::{FARTHEST, NONE};
+use bc4::word;
+use cases::given;
+use cases::show::{Answer, Hex};
+use given::{FARTHEST, OPTIONS};
+use refusal::Channel;
 use std::io;
 
 // Width and height: each fault together with one that is looked for later, a size without a fault, and the farthest sides.
-const SIZES: [[usize; 2]; 13] = [
-    [0, 0],
-    [6, 0],
-    [0, 2000],
-    [2000, 0],
-    [2000, 6],
-    [6, 2000],
-    [1026, 4],
-    [6, 6],
-    [1024, 1024],
-    [1028, 1028],
-    [FARTHEST, 4],
-    [4, FARTHEST],
-    [FARTHEST, FARTHEST],
+const SIZES: [(usize, usize); 13] = [
+    (0, 0),
+    (6, 0),
+    (0, 2000),
+    (2000, 0),
+    (2000, 6),
+    (6, 2000),
+    (1026, 4),
+    (6, 6),
+    (1024, 1024),
+    (1028, 1028),
+    (FARTHEST, 4),
+    (4, FARTHEST),
+    (FARTHEST, FARTHEST),
 ];
 
-fn tiled(rt: &impl Print, t: Tiled) -> io::Result<()> {
-    match t {
-        Tiled::Refused(q) => show::refused(rt, q),
-        Tiled::Written(n) => show::number(rt, n),
-    }
-}
-
-fn said(rt: &impl Print, c: Checked) -> io::Result<()> {
-    match c {
-        Checked::Refused(q) => show::refused(rt, q),
-        Checked::Passed => show::text(rt, "passed"),
-    }
-}
-
-// 17 samples, one of them NaN, into four bytes.
-fn tile(rt: &impl Print, width: usize, height: usize) -> io::Result<()> {
-    let samples = given::samples(3, NONE);
-    let mut out = [0u8; 4];
-    show::text(rt, ": tile ")?;
-    tiled(
-        rt,
-        bc4::encode_tile(
-            &samples,
-            width,
-            height,
-            given::options(false, false, false),
-            &mut out,
-        ),
-    )
-}
-
-// The same with a malformed word.
-fn tile_by_word(rt: &impl Print, width: usize, height: usize) -> io::Result<()> {
-    let samples = given::samples(3, NONE);
-    let mut out = [0u8; 4];
-    show::text(rt, ", by word ")?;
-    tiled(
-        rt,
-        bc4::word::encode_tile(
-            &samples,
-            width,
-            height,
-            bc4::word::read(0, 0, 3, 0),
-            &mut out,
-        ),
-    )
-}
-
-// A block that no tile has, of 17 bytes.
-fn view(rt: &impl Print, width: usize, height: usize) -> io::Result<()> {
-    let bytes = given::bytes();
-    show::text(rt, ", view ")?;
-    said(
-        rt,
-        bc4::view_refusal(&bytes, width, height, FARTHEST, FARTHEST),
-    )?;
-    show::text(rt, " [")?;
-    show::bytes(
-        rt,
-        bc4::block_view(&bytes, width, height, FARTHEST, FARTHEST),
-    )?;
-    show::text(rt, "]")
-}
-
-// 17 bytes into four.
-fn write(rt: &impl Print, width: usize, height: usize) -> io::Result<()> {
-    let bytes = given::bytes();
-    let mut out = [0u8; 4];
-    show::text(rt, ", write ")?;
-    let answer = dds::write(&bytes, width, height, false, &mut out);
-    match answer {
-        Written::Refused(q) => show::refused(rt, q),
-        Written::Bytes(n) => show::number(rt, n),
-    }
-}
-
-// What four bytes hold of it: of the farthest side their own farthest.
-fn put(file: &mut [u8; 145], at: usize, side: usize) {
-    if at <= 141 {
-        let field = fields::bytes_u32((side % 4294967296) as u32);
-        file[at] = field[0];
-        file[at + 1] = field[1];
-        file[at + 2] = field[2];
-        file[at + 3] = field[3];
-    }
-}
-
-fn found(rt: &impl Print, file: &[u8; 145]) -> io::Result<()> {
-    show::text(rt, ", read ")?;
-    said(rt, dds::read_refusal(file))
+// What four bytes hold of a side: of the farthest their own farthest.
+fn field(side: usize) -> [u8; 4] {
+    ((side % 4294967296) as u32).to_le_bytes()
 }
 
 // A file of 8 by 4 with another size, and a byte too many.
-fn read(rt: &impl Print, width: usize, height: usize) -> io::Result<()> {
+fn file(width: usize, height: usize) -> [u8; 145] {
     let mut file = [0u8; 145];
-    dds::write(&[0; 16], 8, 4, false, &mut file);
-    put(&mut file, 16, width);
-    put(&mut file, 12, height);
-    found(rt, &file)
+    let _ = dds::write(&[0; 16], 8, 4, false, &mut file);
+    file[12..16].copy_from_slice(&field(height));
+    file[16..20].copy_from_slice(&field(width));
+    file
 }
 
+// 17 samples, one of them NaN, into four bytes, by options and by a malformed word; a block that no tile has, of 17 bytes; 17 bytes into four.
 fn sized(rt: &impl Print, width: usize, height: usize) -> io::Result<()> {
-    show::size(rt, width, height)?;
-    tile(rt, width, height)?;
-    tile_by_word(rt, width, height)?;
-    view(rt, width, height)?;
-    write(rt, width, height)?;
-    read(rt, width, height)?;
-    show::text(rt, "\n")
+    let samples: [f32; 17] = given::samples(Channel::First, &[3]);
+    let malformed = word::read(0, 0, 3, 0);
+    let bytes: [u8; 17] = given::bytes();
+    let mut out = [0u8; 4];
+    let tile = bc4::encode_tile(&samples, width, height, OPTIONS, &mut out);
+    let by_word = word::encode_tile(&samples, width, height, malformed, &mut out);
+    let no_view = bc4::view_refusal(&bytes, width, height, FARTHEST, FARTHEST);
+    let view = bc4::block_view(&bytes, width, height, FARTHEST, FARTHEST);
+    let written = dds::write(&bytes, width, height, false, &mut out);
+    let read = dds::read_refusal(&file(width, height));
+    println!(rt;
+        "{width} by {height}: tile {}, by word {}, view {} [{}], write {}, read {}",
+        Answer(tile),
+        Answer(by_word),
+        Answer(no_view.map(|()| "passed")),
+        Hex(view),
+        Answer(written),
+        Answer(read.map(|()| "passed")),
+    )
 }
 
 fn main(rt: HostRuntime) -> io::Result<()> {
-    let sizes = SIZES;
-    for k in 0..13usize {
-        sized(&rt, sizes[k][0], sizes[k][1])?;
+    for (width, height) in SIZES {
+        sized(&rt, width, height)?;
     }
     Ok(())
 }

@@ -2,5 +2,5 @@
 use Rattle.std.proofs.Common.{◌<◌}
 use Rattle.cases.proofs.show.checksum.Given as goal
 
-abbrev pub invariant-loop-i : goal.invariant-loop-i
-invariant-loop-i g l = l.sum < 4294967291
+abbrev pub invariant-loop-item : goal.invariant-loop-item
+invariant-loop-item g l = l.sum < 4294967291
