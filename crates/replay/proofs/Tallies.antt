@@ -1,5 +1,6 @@
 -- How much a buffer adds to a tally.
-use Rattle.std.proofs.Common.{◌≡◌, ℕ, zero, suc, ◌+◌, ◌*◌, ◌/◌, ◌<◌, ◌≤◌, List, [], Bool, true, false, cond, length, take, drop, get_or, refl, ◌∙◌, absurd, arith}
+use Rattle.std.proofs.Common.{◌≡◌, ℕ, zero, suc, ◌+◌, ◌*◌, ◌/◌, ◌<◌, ◌≤◌, List, [], Bool, true, false, cond, length, take, drop, get_or, refl, ◌∙◌, arith}
+use native.Mathlib.Numerals.{add-one}
 use lib.Seq.{drop-drop}
 use Rattle.std.specs.Simd.{first_chunks}
 use Rattle.replay.specs.declared.Tally.{Tally}
@@ -12,6 +13,11 @@ chunk_at xs (suc k) zero h = refl
 chunk_at xs (suc k) (suc i) h =
     let next : 76 + i * 76 ≡ suc i * 76 = omega arith in
     chunk_at (drop 76 xs) k i (omega arith) ∙ rw (drop-drop, next) refl
+
+-- one entry more
+pub differing_more : (input : List ℕ) (i : ℕ) → differing_to input (i + 1) ≡ differing_to input i + cond (differs_of (entry_at input i)) 1 0
+unfolding differing_to
+differing_more input i = rw add-one refl
 
 one_more : (d : Bool) (m n : ℕ) → m ≤ n → m + cond d 1 0 ≤ suc n
 one_more true m n h = omega arith

@@ -68,9 +68,5 @@ fn main(rt: HostRuntime) -> io::Result<()> {
             break;
         }
     }
-    writeln!(
-        out,
-        "{} records, {} differ",
-        tally.records, tally.differ
-    )
+    writeln!(out, "{} records, {} differ", tally.records, tally.differ)
 }

@@ -1,5 +1,5 @@
 -- `replay::differs` meets its contract, case by case.
-use Rattle.std.proofs.Common.{◌≡◌, ℕ, ◌+◌, ◌*◌, ◌^◌, List, length, drop, get_or, arith, true, sym, refl, ap, subst, eqb, not}
+use Rattle.std.proofs.Common.{◌≡◌, ℕ, ◌+◌, ◌-◌, List, length, drop, get_or, arith, true, sym, refl, ap, subst, eqb, not}
 use Rattle.std.proofs.lemmas.List.{get_or-drop}
 use Rattle.std.specs.Int.{w64, from_le_bytes}
 use Rattle.fields.proofs.Laws.{four_bytes}
@@ -7,10 +7,11 @@ use Rattle.replay.specs.Entry.{rust_of, unlike, differs_of}
 use Rattle.replay.proofs.differs.Goals as goal
 
 -- the number of the last eight bytes, and their two fields
-rust_is : (entry : List ℕ) → length entry ≡ 76 → from_le_bytes w64 (drop 68 entry) ≡ rust_of entry
+rust_is : (entry : List ℕ) → length entry ≡ 76 → from_le_bytes w64 (drop (length entry - 8) entry) ≡ rust_of entry
 rust_is entry e =
+    let start : length entry - 8 ≡ 68 = omega arith in
     let at : (i : ℕ) → get_or (drop 68 entry) i 0 ≡ get_or entry (68 + i) 0 = λ i. get_or-drop 68 entry i 0 in
-    omega (arith, at 0, at 1, at 2, at 3, at 4, at 5, at 6, at 7, four_bytes entry 68 (omega arith), four_bytes entry 72 (omega arith))
+    rw start (omega (arith, at 0, at 1, at 2, at 3, at 4, at 5, at 6, at 7, four_bytes entry 68 (omega arith), four_bytes entry 72 (omega arith)))
 
 pub returns-in-Ok : goal.returns-in-Ok
 unfolding differs_of unlike
