@@ -2,7 +2,7 @@
 use mathlib.Core.Path.{◌≡◌, refl, sym, ap, ◌∙◌}
 use mathlib.Core.List.{List, [], ◌++◌, append-nil}
 use Prim.Native.Nat.{ℕ, zero, suc, ◌+◌, ◌*◌, ◌-◌, ◌≤◌, ◌<◌}
-use native.Mathlib.Nat.{min-eq_left}
+use native.Mathlib.Nat.{min-eq_left, zero-mul, suc-mul}
 use native.Mathlib.Omega.{arith}
 use lib.ListN.{length, take, drop, get_or, length-append, length-take, length-drop, drop_of_length-le}
 use lib.Seq.{length-take-le, take-add, take_all, take_at, drop_at, drop-drop}
@@ -34,13 +34,13 @@ put_more {text} {new} {before} {after} {part} {at} {n} w more size =
       long,
     )
 
--- record i among the whole ones
-pub chunk_at : (xs : List ℕ) (k i : ℕ) → i < k → get_or (first_chunks 68 k xs) i [] ≡ record_at xs i
-chunk_at xs zero i h = absurd (omega arith)
-chunk_at xs (suc k) zero h = refl
-chunk_at xs (suc k) (suc i) h =
-    let next : 68 + i * 68 ≡ suc i * 68 = omega arith in
-    chunk_at (drop 68 xs) k i (omega arith) ∙ rw (drop-drop, next) refl
+-- chunk i among the whole ones
+pub chunk_at : (n : ℕ) (xs : List ℕ) (k i : ℕ) → i < k → get_or (first_chunks n k xs) i [] ≡ take n (drop (i * n) xs)
+chunk_at n xs zero i h = absurd (omega arith)
+chunk_at n xs (suc k) zero h = rw zero-mul refl
+chunk_at n xs (suc k) (suc i) h =
+    let next : n + i * n ≡ suc i * n = omega (arith, suc-mul i n) in
+    chunk_at n (drop n xs) k i (omega arith) ∙ rw (drop-drop, next) refl
 
 written_length : {text before after : List ℕ} {n : ℕ} → AtStart text before after n → length text ≡ n
 written_length {text} {before} {after} {n} w = ap length (sym w.start) ∙ length-take n after ∙ min-eq_left w.within

@@ -1,18 +1,8 @@
 -- How much a buffer adds to a tally.
-use Rattle.std.proofs.Common.{◌≡◌, ℕ, zero, suc, ◌+◌, ◌*◌, ◌/◌, ◌<◌, ◌≤◌, List, [], Bool, true, false, cond, length, take, drop, get_or, refl, ◌∙◌, arith}
+use Rattle.std.proofs.Common.{◌≡◌, ℕ, zero, suc, ◌+◌, ◌/◌, ◌≤◌, List, Bool, true, false, cond, length, refl, arith}
 use native.Mathlib.Numerals.{add-one}
-use lib.Seq.{drop-drop}
-use Rattle.std.specs.Simd.{first_chunks}
 use Rattle.replay.specs.declared.Tally.{Tally}
 use Rattle.replay.specs.Entry.{differs_of, entry_at, differing_to, tallied}
-
--- entry i among the whole ones
-pub chunk_at : (xs : List ℕ) (k i : ℕ) → i < k → get_or (first_chunks 76 k xs) i [] ≡ entry_at xs i
-chunk_at xs zero i h = absurd (omega arith)
-chunk_at xs (suc k) zero h = refl
-chunk_at xs (suc k) (suc i) h =
-    let next : 76 + i * 76 ≡ suc i * 76 = omega arith in
-    chunk_at (drop 76 xs) k i (omega arith) ∙ rw (drop-drop, next) refl
 
 -- one entry more
 pub differing_more : (input : List ℕ) (i : ℕ) → differing_to input (i + 1) ≡ differing_to input i + cond (differs_of (entry_at input i)) 1 0

@@ -17,6 +17,6 @@ unfolding lines_to
 loop-record-preserved c =
     let l = c.loop-record in
     let room = line_room (answer_of (get_or c.as_chunks.result.0.now l.record-index [])) c.line-at.ensures in
-    let record_is : get_or c.as_chunks.result.0.now l.record-index [] ≡ record_at c.args.input.now l.record-index = rw c.as_chunks.ensures.front (chunk_at c.args.input.now _ l.record-index (omega arith)) in
+    let record_is : get_or c.as_chunks.result.0.now l.record-index [] ≡ record_at c.args.input.now l.record-index = rw c.as_chunks.ensures.front (chunk_at 68 c.args.input.now _ l.record-index (omega arith)) in
     let more = put_more l.invariant.2 c.line-at.ensures (omega arith) in
     (omega arith, more.1 ∙ l.invariant.1, rw (add-one, ← record_is) more.0)

@@ -1,5 +1,5 @@
 -- `replay::differs` meets its contract, case by case.
-use Rattle.std.proofs.Common.{◌≡◌, ℕ, ◌+◌, ◌-◌, List, length, drop, get_or, arith, true, sym, refl, ap, subst, eqb, not}
+use Rattle.std.proofs.Common.{◌≡◌, ℕ, ◌+◌, ◌-◌, List, length, drop, get_or, arith, refl}
 use Rattle.std.proofs.lemmas.List.{get_or-drop}
 use Rattle.std.specs.Int.{w64, from_le_bytes}
 use Rattle.fields.proofs.Laws.{four_bytes}

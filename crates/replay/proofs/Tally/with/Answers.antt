@@ -1,7 +1,8 @@
 -- `replay::Tally::with`: an entry that differs adds one.
-use Rattle.std.proofs.Common.{◌≡◌, ◌+◌, ◌/◌, rules, arith, ap, ap₂, sym, ◌∙◌, ℕ, [], length, get_or}
+use Rattle.std.proofs.Common.{◌≡◌, ◌/◌, rules, arith, ap, ap₂, ◌∙◌, ℕ, [], length, get_or}
 use Rattle.replay.specs.Entry.{differs_of, entry_at, differing_to, tallied}
-use Rattle.replay.proofs.Tallies.{chunk_at, differing_more, differing_le}
+use Rattle.lines.proofs.Laws.{chunk_at}
+use Rattle.replay.proofs.Tallies.{differing_more, differing_le}
 use Rattle.replay.proofs.Tally.with.Goals as goal
 use Rattle.replay.proofs.Tally.with.Goals.{then-differs+in_ok-writeln, else-differs}
 
@@ -16,7 +17,7 @@ pub loop-entry-preserved : goal.loop-entry-preserved
 loop-entry-preserved g c =
     let l = c.loop-entry in
     let input = c.args.input.now in
-    let entry : get_or c.as_chunks.result.0.now l.entry-index [] ≡ entry_at input l.entry-index = rw c.as_chunks.ensures.front (chunk_at input _ l.entry-index (omega arith)) in
+    let entry : get_or c.as_chunks.result.0.now l.entry-index [] ≡ entry_at input l.entry-index = rw c.as_chunks.ensures.front (chunk_at 76 input _ l.entry-index (omega arith)) in
     let found : c.differs.result ≡ differs_of (entry_at input l.entry-index) = c.differs.ensures ∙ ap differs_of entry in
     elim c.if-differs.branch [
       | then-differs+in_ok-writeln w ↦ rw (w.tally-is, differing_more, ← found, w.if-differs.true) (omega arith, omega arith)
