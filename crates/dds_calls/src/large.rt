@@ -3,19 +3,16 @@ use crate::{reading, writing};
 use cases::{given, show};
 use std::io;
 
-fn read(rt: &impl Print, file: &[u8]) -> io::Result<()> {
-    show::text(rt, "read it: ")?;
-    reading::found(rt, file)?;
-    show::text(rt, ", body ")?;
-    show::checksum(rt, dds::body(file))?;
-    show::text(rt, "\n")
-}
-
 pub fn cases(rt: &(impl Print + AllocGlobal)) -> io::Result<()> {
     let mut tile = vec![in rt.alloc(); 0u8; 524288]?;
     given::fill_bytes(tile.as_mut_slice());
-    let mut file = vec![in rt.alloc(); 0xa5u8; 524424]?;
-    writing::write(rt, tile.as_slice(), 1024, 1024, true, file.as_mut_slice())?;
-    show::after(rt, file.as_slice())?;
-    read(rt, given::first_bytes(file.as_slice(), 524416))
+    let mut out = vec![in rt.alloc(); 0xa5u8; 524424]?;
+    writing::write(rt, tile.as_slice(), 1024, 1024, true, out.as_mut_slice())?;
+    println!(rt; ", out {:08x}", show::checksum(out.as_slice()))?;
+    let file = given::first(out.as_slice(), 524416);
+    println!(rt;
+        "read it: {}, body {:08x}",
+        reading::found(file),
+        show::checksum(dds::body(file)),
+    )
 }

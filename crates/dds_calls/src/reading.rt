@@ -1,279 +1,275 @@
 // Read: refusals 11 to 14, 1, 9, 10 and 15. A line shows size, format and where the body starts, or the refusal with its side or field; what
 // `read_refusal` says where it refuses; and the body. The files are made here, not by the writer.
+use cases::show::{Answer, Hex, IfRefused};
 use cases::{given, show};
-use dds::{Found, Picture};
-use given::NONE;
-use std::io;
+use dds::Picture;
+use std::fmt::Display;
+use std::{fmt, io};
 
 const ATI1: u32 = 0x31495441;
 
-fn set(file: &mut [u8; 165], at: usize, x: u32) {
-    if at <= 161 {
-        file[at] = (x % 256) as u8;
-        file[at + 1] = (x / 256 % 256) as u8;
-        file[at + 2] = (x / 65536 % 256) as u8;
-        file[at + 3] = (x / 16777216) as u8;
+// A field of a file: where it starts, and what it is set to.
+type Field = (usize, u32);
+
+// What a file of 8 by 4 has in every field that is named.
+const FIELDS: [Field; 8] = [
+    (0, 0x20534444),
+    (4, 124),
+    (12, 4),
+    (16, 8),
+    (24, 0),
+    (28, 1),
+    (84, 0x55344342),
+    (112, 0x200),
+];
+
+// What it has besides with an extension.
+const EXTENSION: [Field; 3] = [(84, 0x30315844), (128, 80), (140, 1)];
+
+fn set(file: &mut [u8; 165], fields: &[Field]) {
+    for (at, x) in fields {
+        for (byte, new) in file.iter_mut().skip(*at).zip(x.to_le_bytes()) {
+            *byte = new;
+        }
     }
 }
 
-// A file of 8 by 4, right in every field that is named, and any bytes elsewhere.
-fn fields_set(file: &mut [u8; 165]) {
-    set(file, 0, 0x20534444);
-    set(file, 4, 124);
-    set(file, 12, 4);
-    set(file, 16, 8);
-    set(file, 24, 0);
-    set(file, 28, 1);
-    set(file, 84, 0x55344342);
-    set(file, 112, 0x200);
+// A file, right in every field that is named, and any bytes elsewhere; how many of its bytes are read.
+#[derive(Clone, Copy)]
+struct Sort {
+    extension: bool,
+    length: usize,
 }
 
-fn extended(file: &mut [u8; 165]) {
-    set(file, 84, 0x30315844);
-    set(file, 128, 80);
-    set(file, 140, 1);
-}
+const PLAIN: Sort = Sort {
+    extension: false,
+    length: 144,
+};
 
-fn made(extension: bool) -> [u8; 165] {
-    let mut file = [0u8; 165];
-    given::fill_bytes(&mut file);
-    fields_set(&mut file);
-    if extension {
-        extended(&mut file);
-    }
-    file
-}
+const EXTENDED: Sort = Sort {
+    extension: true,
+    length: 164,
+};
 
-fn first(file: &[u8; 165], length: usize) -> &[u8] {
-    given::first_bytes(file, length)
-}
-
-fn picture(rt: &impl Print, p: Picture) -> io::Result<()> {
-    show::size(rt, p.width, p.height)?;
-    show::format(rt, p.snorm)?;
-    show::text(rt, ", from ")?;
-    show::number(rt, p.start)
-}
-
-pub fn found(rt: &impl Print, file: &[u8]) -> io::Result<()> {
-    let answer = dds::read(file);
-    match answer {
-        Found::Refused(q) => show::refused(rt, q),
-        Found::File(p) => picture(rt, p),
+impl Sort {
+    fn made(self) -> [u8; 165] {
+        let mut file = given::bytes();
+        set(&mut file, &FIELDS);
+        if self.extension {
+            set(&mut file, &EXTENSION);
+        }
+        file
     }
 }
 
-fn answer(rt: &impl Print, file: &[u8]) -> io::Result<()> {
-    show::text(rt, ": ")?;
-    found(rt, file)?;
-    show::text(rt, ",")?;
-    show::if_refused(rt, dds::read_refusal(file))?;
-    show::text(rt, " [")?;
-    show::bytes(rt, dds::body(file))?;
-    show::text(rt, "]\n")
+impl Display for Sort {
+    fn fmt<W: fmt::Write>(&self, f: &mut fmt::Formatter<W>) -> fmt::Result {
+        let with = show::if_set(self.extension, " with DX10");
+        write!(f, "read {} bytes{with}", self.length)
+    }
 }
 
-fn named(rt: &impl Print, extension: bool, length: usize) -> io::Result<()> {
-    show::text(rt, "read ")?;
-    show::byte_count(rt, length)?;
-    show::option(rt, extension, " with DX10")
+// What a file holds.
+#[derive(Clone, Copy)]
+pub struct Held(Picture);
+
+impl Display for Held {
+    fn fmt<W: fmt::Write>(&self, f: &mut fmt::Formatter<W>) -> fmt::Result {
+        let p = self.0;
+        let format = show::format(p.snorm);
+        write!(f, "{} by {}, {format}, from {}", p.width, p.height, p.start)
+    }
 }
 
-fn change(rt: &impl Print, at: usize, x: u32) -> io::Result<()> {
-    if at != NONE {
-        show::text(rt, ", ")?;
-        show::number(rt, at)?;
-        show::text(rt, " is ")?;
-        show::number(rt, x as usize)?;
+pub fn found(file: &[u8]) -> Answer<Held> {
+    Answer(dds::read(file).map(Held))
+}
+
+// The fields that a case has otherwise.
+#[derive(Clone, Copy)]
+struct Changes<'a>(&'a [Field]);
+
+impl Display for Changes<'_> {
+    fn fmt<W: fmt::Write>(&self, f: &mut fmt::Formatter<W>) -> fmt::Result {
+        for (at, x) in self.0 {
+            write!(f, ", {at} is {x}")?;
+        }
+        Ok(())
+    }
+}
+
+fn changed(rt: &impl Print, sort: Sort, changes: &[Field]) -> io::Result<()> {
+    let mut made = sort.made();
+    set(&mut made, changes);
+    let file = given::first(&made, sort.length);
+    println!(rt;
+        "{sort}{}: {},{} [{}]",
+        Changes(changes),
+        found(file),
+        IfRefused(dds::read_refusal(file)),
+        Hex(dds::body(file)),
+    )
+}
+
+fn lengths(rt: &impl Print) -> io::Result<()> {
+    for length in [0, 127, 128, 143, 144, 145, 148] {
+        changed(rt, Sort { length, ..PLAIN }, &[])?;
+    }
+    for length in [0, 127, 128, 144, 147, 148, 163, 164, 165] {
+        changed(rt, Sort { length, ..EXTENDED }, &[])?;
     }
     Ok(())
 }
 
-// The first `length` bytes, with two fields changed or none.
-fn changed(
-    rt: &impl Print,
-    extension: bool,
-    length: usize,
-    at: usize,
-    x: u32,
-    and_at: usize,
-    and_x: u32,
-) -> io::Result<()> {
-    let mut file = made(extension);
-    set(&mut file, at, x);
-    set(&mut file, and_at, and_x);
-    named(rt, extension, length)?;
-    change(rt, at, x)?;
-    change(rt, and_at, and_x)?;
-    answer(rt, first(&file, length))
-}
-
-fn long(rt: &impl Print, extension: bool, length: usize) -> io::Result<()> {
-    changed(rt, extension, length, NONE, 0, NONE, 0)
-}
-
-fn field(rt: &impl Print, at: usize, x: u32) -> io::Result<()> {
-    changed(rt, false, 144, at, x, NONE, 0)
-}
-
-fn extension_field(rt: &impl Print, at: usize, x: u32) -> io::Result<()> {
-    changed(rt, true, 164, at, x, NONE, 0)
-}
-
-fn both(rt: &impl Print, at: usize, x: u32, and_at: usize, and_x: u32) -> io::Result<()> {
-    changed(rt, true, 164, at, x, and_at, and_x)
-}
-
-fn short_files(rt: &impl Print) -> io::Result<()> {
-    long(rt, false, 0)?;
-    long(rt, false, 127)?;
-    long(rt, false, 128)?;
-    long(rt, false, 143)?;
-    long(rt, false, 144)?;
-    long(rt, false, 145)?;
-    long(rt, false, 148)
-}
-
-fn short_extended_files(rt: &impl Print) -> io::Result<()> {
-    long(rt, true, 0)?;
-    long(rt, true, 127)?;
-    long(rt, true, 128)?;
-    long(rt, true, 144)?;
-    long(rt, true, 147)?;
-    long(rt, true, 148)?;
-    long(rt, true, 163)?;
-    long(rt, true, 164)?;
-    long(rt, true, 165)
+// One field of either.
+fn each(rt: &impl Print, plain: &[Field], extended: &[Field]) -> io::Result<()> {
+    for change in plain {
+        changed(rt, PLAIN, &[*change])?;
+    }
+    for change in extended {
+        changed(rt, EXTENDED, &[*change])?;
+    }
+    Ok(())
 }
 
 fn marks(rt: &impl Print) -> io::Result<()> {
-    field(rt, 0, 0x20534445)?;
-    field(rt, 0, 0x44445320)?;
-    field(rt, 4, 123)?;
-    field(rt, 4, 125)?;
-    field(rt, 4, 0x017c)
+    let changes = [
+        (0, 0x20534445),
+        (0, 0x44445320),
+        (4, 123),
+        (4, 125),
+        (4, 0x017c),
+    ];
+    each(rt, &changes, &[])
 }
 
 fn formats(rt: &impl Print) -> io::Result<()> {
-    field(rt, 84, 0x53344342)?;
-    field(rt, 84, ATI1)?;
-    field(rt, 84, 0x55344363)?;
-    field(rt, 84, 0)?;
-    extension_field(rt, 128, 79)?;
-    extension_field(rt, 128, 81)?;
-    extension_field(rt, 128, 82)?;
-    extension_field(rt, 128, 0x0150)
+    let plain = [(84, 0x53344342), (84, ATI1), (84, 0x55344363), (84, 0)];
+    let extended = [(128, 79), (128, 81), (128, 82), (128, 0x0150)];
+    each(rt, &plain, &extended)
 }
 
 fn pictures(rt: &impl Print) -> io::Result<()> {
-    field(rt, 28, 0)?;
-    field(rt, 28, 2)?;
-    field(rt, 28, 0x0101)?;
-    field(rt, 24, 1)?;
-    field(rt, 24, 2)?;
-    field(rt, 24, 0xffff_ffff)?;
-    extension_field(rt, 140, 0)?;
-    extension_field(rt, 140, 2)?;
-    extension_field(rt, 140, 0x0101)
+    let plain = [
+        (28, 0),
+        (28, 2),
+        (28, 0x0101),
+        (24, 1),
+        (24, 2),
+        (24, 0xffff_ffff),
+    ];
+    let extended = [(140, 0), (140, 2), (140, 0x0101)];
+    each(rt, &plain, &extended)
 }
 
 fn faces(rt: &impl Print) -> io::Result<()> {
-    field(rt, 112, 0x03ff)?;
-    field(rt, 112, 0x0400)?;
-    field(rt, 112, 0x0800)?;
-    field(rt, 112, 0x1000)?;
-    field(rt, 112, 0x2000)?;
-    field(rt, 112, 0x4000)?;
-    field(rt, 112, 0x8000)?;
-    field(rt, 112, 0xffff_03ff)
+    let changes = [
+        (112, 0x03ff),
+        (112, 0x0400),
+        (112, 0x0800),
+        (112, 0x1000),
+        (112, 0x2000),
+        (112, 0x4000),
+        (112, 0x8000),
+        (112, 0xffff_03ff),
+    ];
+    each(rt, &changes, &[])
 }
 
-fn read_widths(rt: &impl Print) -> io::Result<()> {
-    field(rt, 16, 0)?;
-    field(rt, 16, 6)?;
-    field(rt, 16, 1024)?;
-    field(rt, 16, 1028)?;
-    field(rt, 16, 65544)?;
-    field(rt, 16, 0xffff_fffc)?;
-    field(rt, 16, 4)
-}
-
-fn read_heights(rt: &impl Print) -> io::Result<()> {
-    field(rt, 12, 0)?;
-    field(rt, 12, 6)?;
-    field(rt, 12, 1024)?;
-    field(rt, 12, 1028)?;
-    field(rt, 12, 65540)?;
-    field(rt, 12, 0xffff_fffc)?;
-    field(rt, 12, 8)
+fn sides(rt: &impl Print) -> io::Result<()> {
+    let changes = [
+        (16, 0),
+        (16, 6),
+        (16, 1024),
+        (16, 1028),
+        (16, 65544),
+        (16, 0xffff_fffc),
+        (16, 4),
+        (12, 0),
+        (12, 6),
+        (12, 1024),
+        (12, 1028),
+        (12, 65540),
+        (12, 0xffff_fffc),
+        (12, 8),
+    ];
+    each(rt, &changes, &[])
 }
 
 // The order of the numbers, and inside a number that of its fields.
 fn in_order(rt: &impl Print) -> io::Result<()> {
-    changed(rt, false, 127, 0, 0, NONE, 0)?;
-    changed(rt, true, 147, 0, 0, 4, 0)?;
-    both(rt, 0, 0, 4, 0)?;
-    both(rt, 4, 0, 84, ATI1)?;
-    both(rt, 4, 0, 128, 79)?;
-    both(rt, 84, ATI1, 28, 2)?;
-    both(rt, 128, 79, 28, 2)?;
-    both(rt, 28, 2, 24, 2)
-}
-
-fn later_in_order(rt: &impl Print) -> io::Result<()> {
-    both(rt, 24, 2, 112, 0x400)?;
-    both(rt, 112, 0x400, 140, 0)?;
-    both(rt, 140, 0, 16, 0)?;
-    both(rt, 140, 0, 16, 1028)?;
-    both(rt, 140, 0, 16, 6)?;
-    both(rt, 16, 6, 12, 6)?;
-    changed(rt, true, 163, 12, 6, NONE, 0)?;
-    // one that another file would have: the fields of an extension that is not there
-    changed(rt, false, 144, 128, 79, 140, 0)
-}
-
-fn other(b: u8) -> u8 {
-    255 - b
-}
-
-fn change_byte(file: &mut [u8; 165], k: usize) {
-    if k < 165 {
-        file[k] = other(file[k]);
+    changed(
+        rt,
+        Sort {
+            length: 127,
+            ..PLAIN
+        },
+        &[(0, 0)],
+    )?;
+    changed(
+        rt,
+        Sort {
+            length: 147,
+            ..EXTENDED
+        },
+        &[(0, 0), (4, 0)],
+    )?;
+    for both in [
+        [(0, 0), (4, 0)],
+        [(4, 0), (84, ATI1)],
+        [(4, 0), (128, 79)],
+        [(84, ATI1), (28, 2)],
+        [(128, 79), (28, 2)],
+        [(28, 2), (24, 2)],
+        [(24, 2), (112, 0x400)],
+        [(112, 0x400), (140, 0)],
+        [(140, 0), (16, 0)],
+        [(140, 0), (16, 1028)],
+        [(140, 0), (16, 6)],
+        [(16, 6), (12, 6)],
+    ] {
+        changed(rt, EXTENDED, &both)?;
     }
+    changed(
+        rt,
+        Sort {
+            length: 163,
+            ..EXTENDED
+        },
+        &[(12, 6)],
+    )?;
+    // one that another file would have: the fields of an extension that is not there
+    changed(rt, PLAIN, &[(128, 79), (140, 0)])
 }
 
 // The number that a file is refused with, 0 for none, once byte k of it is another.
-fn with_another_byte(rt: &impl Print, extension: bool, length: usize, k: usize) -> io::Result<()> {
-    let mut file = made(extension);
-    change_byte(&mut file, k);
-    show::text(rt, " ")?;
-    show::checked_number(rt, dds::read_refusal(first(&file, length)))
-}
-
-fn each_byte(rt: &impl Print, extension: bool, length: usize) -> io::Result<()> {
-    named(rt, extension, length)?;
-    show::text(rt, ", each byte changed alone:")?;
-    for k in 0..length {
-        with_another_byte(rt, extension, length, k)?;
+fn with_another_byte(sort: Sort, k: usize) -> u8 {
+    let mut file = sort.made();
+    if let Some(byte) = file.get_mut(k) {
+        *byte = 255 - *byte;
     }
-    show::text(rt, "\n")
+    match dds::read_refusal(given::first(&file, sort.length)) {
+        Ok(()) => 0,
+        Err(q) => refusal::number(q),
+    }
 }
 
-fn each_number(rt: &impl Print) -> io::Result<()> {
-    short_files(rt)?;
-    short_extended_files(rt)?;
+fn each_byte(rt: &impl Print, sort: Sort) -> io::Result<()> {
+    print!(rt; "{sort}, each byte changed alone:")?;
+    for k in 0..sort.length {
+        print!(rt; " {}", with_another_byte(sort, k))?;
+    }
+    println!(rt)
+}
+
+pub fn cases(rt: &impl Print) -> io::Result<()> {
+    lengths(rt)?;
     marks(rt)?;
     formats(rt)?;
     pictures(rt)?;
     faces(rt)?;
-    read_widths(rt)?;
-    read_heights(rt)?;
+    sides(rt)?;
     in_order(rt)?;
-    later_in_order(rt)
-}
-
-pub fn cases(rt: &impl Print) -> io::Result<()> {
-    each_number(rt)?;
-    each_byte(rt, false, 144)?;
-    each_byte(rt, true, 164)
+    each_byte(rt, PLAIN)?;
+    each_byte(rt, EXTENDED)
 }

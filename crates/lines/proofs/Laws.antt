@@ -1,48 +1,46 @@
 -- Laws of the text that grows in the output.
-use mathlib.Core.Path.{◌≡◌, sym, ap, ◌∙◌}
-use mathlib.Core.List.{List, ◌++◌, append_assoc, append-nil}
-use Prim.Native.Nat.{ℕ, zero, suc, ◌+◌, ◌*◌, ◌-◌, ◌≤◌}
-use native.Mathlib.Nat.{min-eq_left}
+use mathlib.Core.Path.{◌≡◌, refl, sym, ap, ◌∙◌}
+use mathlib.Core.List.{List, [], ◌++◌, append-nil}
+use Prim.Native.Nat.{ℕ, zero, suc, ◌+◌, ◌*◌, ◌-◌, ◌≤◌, ◌<◌}
+use native.Mathlib.Nat.{min-eq_left, zero-mul, suc-mul}
 use native.Mathlib.Omega.{arith}
-use lib.ListN.{length, take, drop, length-append, length-take, length-drop, drop_of_length-le}
-use lib.Seq.{length-take-le, take_all, take-length, take_at, drop_at, drop-drop}
+use lib.ListN.{length, take, drop, get_or, length-append, length-take, length-drop, drop_of_length-le}
+use lib.Seq.{length-take-le, take-add, take_all, take_at, drop_at, drop-drop}
 use borrow.Rule.Slice.PartMut.{put_mid}
+use Rattle.std.specs.Simd.{first_chunks}
 use Rattle.refusal.specs.Refusals.{Answer}
 use Rattle.core.specs.declared.result.Result.TheVariants.{Ok, Err}
-use Rattle.lines.specs.declared.output.Line.{Line}
-use Rattle.lines.specs.Output.{hex_line, refused_line, Holds}
+use Rattle.lines.specs.Output.{hex_line, refused_line}
 use Rattle.lines.specs.Answers.{answer_of, line_of, record_at, lines_to, AtStart}
 
--- What the output is once `new` was put over its bytes from `at` on,
-copied : (after new : List ℕ) (at : ℕ) → put_mid at (at + length new - at) after new ≡ (take at after ++ new) ++ drop (at + length new) after
-copied after new at =
-    let count : at + length new - at ≡ length new = omega arith in
-    rw (count, drop-drop (length new) at after) (sym (append_assoc (take at after) new (drop (at + length new) after)))
-
--- and after a text that stood there before it: the longer text.
-written_more : {text before after : List ℕ} {at : ℕ} (new : List ℕ) → AtStart text before after at → at + length new ≤ length after
-    → let out = (take at after ++ new) ++ drop (at + length new) after in
-    AtStart (text ++ new) before out (at + length new) × (length out ≡ length after)
-written_more {text} {before} {after} {at} new w room =
-    let first = take at after ++ new in
-    let long : length first ≡ at + length new = simp (length-append, length-take) (omega arith) in
-    let same : length (first ++ drop (at + length new) after) ≡ length after = simp (length-append, length-take, length-drop) (omega arith) in (
+-- A text was put into the part of the output behind a text that stood there.
+pub put_more : {text new before after part : List ℕ} {at n : ℕ} → AtStart text before after at → AtStart new (take (length after - at) (drop at after)) part n → length part ≡ length after - at
+    → let out = put_mid at (length after - at) after part in AtStart (text ++ new) before out (at + n) × (length out ≡ length after)
+put_more {text} {new} {before} {after} {part} {at} {n} w more size =
+    let first : length (take at after) ≡ at = length-take-le at after w.within in
+    let left : length (drop at after) ≤ length after - at = simp length-drop (omega arith) in
+    let lent = take_all (length after - at) (drop at after) left in
+    let none : drop (length after - at) (drop at after) ≡ [] = drop_of_length-le _ left in
+    let out : put_mid at (length after - at) after part ≡ take at after ++ part = rw (none, append-nil) refl in
+    let front = take_at (take at after) part at first in
+    let back = drop_at (take at after) part at first in
+    let long : length (take at after ++ part) ≡ length after = simp (length-append, first, size) (omega arith) in
+    rw out (
       record {
-        within = omega (arith, same);
-        start = take_at first (drop (at + length new) after) (at + length new) long ∙ rw w.start;
-        rest = drop_at first (drop (at + length new) after) (at + length new) long ∙ rw (← drop-drop (length new) at after, ← drop-drop (length new) at before, w.rest);
+        within = omega arith;
+        start = take-add at n (take at after ++ part) ∙ rw (front, back, w.start, more.start) refl;
+        rest = sym (drop-drop n at (take at after ++ part)) ∙ rw (back, more.rest, lent, w.rest, drop-drop) refl;
       },
-      same,
+      long,
     )
 
--- The same of `n` bytes that were put there.
-pub put_more : {text before after : List ℕ} {at : ℕ} (new : List ℕ) (n : ℕ) → length new ≡ n → AtStart text before after at → at + n ≤ length after
-    → let out = put_mid at (at + n - at) after new in AtStart (text ++ new) before out (at + n) × (length out ≡ length after)
-put_more {text} {before} {after} {at} new n e w room = rw (← e, copied after new at) (written_more new w (omega arith))
-
--- the bytes of a line
-pub line_bytes : {l : Line} {text : List ℕ} → Holds l text → length (take l.length l.bytes) ≡ l.length
-line_bytes {l} h = length-take-le l.length l.bytes (omega arith)
+-- chunk i among the whole ones
+pub chunk_at : (n : ℕ) (xs : List ℕ) (k i : ℕ) → i < k → get_or (first_chunks n k xs) i [] ≡ take n (drop (i * n) xs)
+chunk_at n xs zero i h = absurd (omega arith)
+chunk_at n xs (suc k) zero h = rw zero-mul refl
+chunk_at n xs (suc k) (suc i) h =
+    let next : n + i * n ≡ suc i * n = omega (arith, suc-mul i n) in
+    chunk_at n (drop n xs) k i (omega arith) ∙ rw (drop-drop, next) refl
 
 written_length : {text before after : List ℕ} {n : ℕ} → AtStart text before after n → length text ≡ n
 written_length {text} {before} {after} {n} w = ap length (sym w.start) ∙ length-take n after ∙ min-eq_left w.within
@@ -51,6 +49,10 @@ line_length : (a : Answer ℕ) → length (line_of a) ≤ 17
 unfolding line_of hex_line refused_line
 line_length (Ok b) = omega arith
 line_length (Err q) = omega arith
+
+-- the bytes that a line takes
+pub line_room : {before after : List ℕ} {n : ℕ} (a : Answer ℕ) → AtStart (line_of a) before after n → n ≤ 17
+line_room {before} {after} {n} a w = rw (← written_length w) (line_length a)
 
 lines_length : (input : List ℕ) (n : ℕ) → length (lines_to input n) ≤ n * 17
 unfolding lines_to

@@ -1,7 +1,6 @@
 -- The lines of the program, as bytes. Document 01, "The program": sixteen lower-case hex digits, the block's bytes in order, or `refused N`.
-use Rattle.std.specs.Prelude.{◌≡◌, List, [], ◌∷◌, ℕ, ◌+◌, ◌/◌, ◌%◌, ◌≤◌, length, take, get_or}
+use Rattle.std.specs.Prelude.{List, [], ◌∷◌, ℕ, ◌+◌, ◌/◌, ◌%◌, get_or}
 use Rattle.index_list.specs.Layout.{byte_at}
-use Rattle.lines.specs.declared.output.Line.{Line}
 
 -- the digit of a number below 16: of the bytes of `0123456789abcdef`
 abbrev pub digit : ℕ → ℕ
@@ -26,9 +25,3 @@ refused_line number = 114 ∷ 101 ∷ 102 ∷ 117 ∷ 115 ∷ 101 ∷ 100 ∷ 32
 -- the bytes of `short`
 abbrev pub short_line : List ℕ
 short_line = 115 ∷ 104 ∷ 111 ∷ 114 ∷ 116 ∷ line_feed ∷ []
-
--- The bytes of a line and their number are a text.
-pub record Holds (l : Line) (text : List ℕ) : Type 0 where
-  pub size : length l.bytes ≡ 17
-  pub within : l.length ≤ 17
-  pub same : take l.length l.bytes ≡ text

@@ -1,25 +1,16 @@
 // Document 01, "The program": what stands in a record of 68 bytes.
-ghost use Rattle.std.specs.Prelude.{◌≡◌, ◌<◌, length};
+ghost use Rattle.std.specs.Prelude.{◌≡◌};
 ghost use Rattle.std.specs.Float.{binary32};
 ghost use Rattle.std.specs.Float.Ieee.{of_bits};
-ghost use Rattle.lines.specs.Input.{record_word, pattern_at, samples_of};
+ghost use Rattle.lines.specs.Input.{record_word, samples_of};
 
 use bc4::word::Word;
 
 // The first four bytes.
-pub fn read_word(bytes: &[u8]) -> Word
-    requires { length bytes.now ≡ 68 }
-    ensures { result ≡ record_word bytes.now }
+pub fn read_word(record: &[u8; 68]) -> Word
+    ensures { result ≡ record_word record.now }
 {
-    bc4::word::read(bytes[0], bytes[1], bytes[2], bytes[3])
-}
-
-// The bits of sample i.
-fn pattern(bytes: &[u8], i: usize) -> u32
-    requires { (length bytes.now ≡ 68) × (i < 16) }
-    ensures { result ≡ pattern_at bytes.now i }
-{
-    fields::read_u32(bytes, 4 + 4 * i)
+    bc4::word::read(record[0], record[1], record[2], record[3])
 }
 
 // A NaN is made by a division: `from_bits` is not defined at its bits.
@@ -32,13 +23,9 @@ fn float_of(n: u32) -> f32
     f32::from_bits(n)
 }
 
-pub fn samples(bytes: &[u8]) -> [f32; 16]
-    requires { length bytes.now ≡ 68 }
-    ensures { result ≡ samples_of bytes.now }
+// The bits of sample i are the four bytes from 4 + 4 * i on.
+pub fn samples(record: &[u8; 68]) -> [f32; 16]
+    ensures { result ≡ samples_of record.now }
 {
-    let mut b = [0.0f32; 16];
-    for i in 0..16usize {
-        b[i] = float_of(pattern(bytes, i));
-    }
-    b
+    std::array::from_fn(|i| float_of(fields::read_u32(record, 4 + 4 * i)))
 }

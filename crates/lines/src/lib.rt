@@ -3,51 +3,53 @@
 
 ghost use Rattle.std.specs.Prelude.{◌≡◌, ◌+◌, ◌*◌, ◌/◌, ◌≤◌, length};
 ghost use Rattle.lines.specs.Answers.{answer_of, line_of, lines_to, text_of, AtStart};
-ghost use Rattle.lines.specs.Output.{Holds};
 
 mod input;
 mod output;
 
 use bc4::Refusal;
-use output::Line;
 
-pub fn answer_to(bytes: &[u8]) -> Result<u64, Refusal>
-    requires { length bytes.now ≡ 68 }
-    ensures { result ≡ answer_of bytes.now }
+pub fn answer_to(record: &[u8; 68]) -> Result<u64, Refusal>
+    ensures { result ≡ answer_of record.now }
 {
-    let samples = input::samples(bytes);
-    bc4::word::encode_block(&samples, input::read_word(bytes))
+    let samples = input::samples(record);
+    bc4::word::encode_block(&samples, input::read_word(record))
+}
+
+// A text, at the start of `out`: how many bytes it takes. Later bytes stay, here and below.
+fn put(text: &[u8], out: &mut [u8]) -> usize
+    requires { length text.now ≤ length out.old }
+    ensures { AtStart text.now out.old out.new result }
+{
+    out[..text.len()].copy_from_slice(text);
+    text.len()
 }
 
 // The line of a record. A record is refused for few reasons, all of one digit.
-fn line(bytes: &[u8]) -> Line
-    requires { length bytes.now ≡ 68 }
-    ensures { Holds result (line_of (answer_of bytes.now)) }
+fn line(record: &[u8; 68], out: &mut [u8]) -> usize
+    requires { 17 ≤ length out.old }
+    ensures { AtStart (line_of (answer_of record.now)) out.old out.new result }
 {
-    match answer_to(bytes) {
-        Ok(block) => output::hex(block),
-        Err(q) => output::refused(bc4::number(q)),
+    match answer_to(record) {
+        Ok(block) => put(&output::hex(block), out),
+        Err(q) => put(&output::refused(bc4::number(q)), out),
     }
 }
 
-// The lines of all whole records of `input`, at the start of `out`: how many bytes they take. Later bytes stay.
+// The lines of all whole records of `input`.
 fn lines(input: &[u8], out: &mut [u8]) -> usize
     requires { length input.now / 68 * 17 ≤ length out.old }
     ensures { AtStart (lines_to input.now (length input.now / 68)) out.old out.new result }
 {
+    let (records, _) = input.as_chunks::<68>();
     let mut at = 0;
-    for i in 0..input.len() / 68 {
-        let l = line(&input[i * 68..i * 68 + 68]);
-        let n = l.length;
-        let text = l.bytes;
-        out[at..at + n].copy_from_slice(&text[..n]);
-        at += n;
+    for record in records {
+        at += line(record, &mut out[at..]);
     }
     at
 }
 
-// All that the program writes for an input, at the start of `out`: how many bytes that takes. Later bytes stay. A caller lends room for the
-// longest line of each record and for `short`.
+// All that the program writes for an input. A caller lends room for the longest line of each record and for `short`.
 pub fn text(input: &[u8], out: &mut [u8]) -> usize
     requires { length input.now / 68 * 17 + 6 ≤ length out.old }
     ensures { AtStart (text_of input.now) out.old out.new result }
@@ -56,6 +58,5 @@ pub fn text(input: &[u8], out: &mut [u8]) -> usize
     if input.len() % 68 == 0 {
         return at;
     }
-    out[at..at + 6].copy_from_slice(b"short\n");
-    at + 6
+    at + put(b"short\n", &mut out[at..])
 }

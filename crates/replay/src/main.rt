@@ -2,12 +2,14 @@
 // program `records` reads it, and the eight bytes that the Rust gave for it.
 #![tactic(auto)]
 
-ghost use Rattle.std.specs.Prelude.{◌≡◌, ◌+◌, ◌*◌, ◌≤◌, ◌<◌, length, IfOk};
+ghost use Rattle.std.specs.Prelude.{◌≡◌, ◌+◌, ◌≤◌, ◌<◌, length, IfOk};
 ghost use Rattle.replay.specs.Entry.{differs_of, tallied};
 
-use bc4::Encoded;
 use std::io;
-use std::io::{Error, Write};
+use std::io::Write;
+
+// What a buffer holds.
+const INPUT: usize = 860 * 76;
 
 // How many entries, and how many of them differ.
 #[derive(Clone, Copy)]
@@ -16,70 +18,55 @@ struct Tally {
     differ: u64,
 }
 
-// The eight bytes that the Rust gave as one number, byte 0 lowest, from their two halves.
-fn joined(low: u32, high: u32) -> u64
-    ensures { result ≡ low + 4294967296 * high }
-{
-    (low as u64) + 4294967296 * (high as u64)
-}
-
 // A record that is refused differs: the Rust refuses none.
-fn differs(entry: &[u8]) -> bool
-    requires { length entry.now ≡ 76 }
+fn differs(entry: &[u8; 76]) -> bool
     ensures { result ≡ differs_of entry.now }
 {
-    let rust = joined(fields::read_u32(entry, 68), fields::read_u32(entry, 72));
-    let answer = lines::answer_to(&entry[..68]);
-    match answer {
-        Encoded::Block(block) => block != rust,
-        Encoded::Refused(_) => true,
+    let record = entry.first_chunk::<68>().unwrap();
+    let rust = u64::from_le_bytes(*entry.last_chunk::<8>().unwrap());
+    match lines::answer_to(record) {
+        Ok(block) => block != rust,
+        Err(_) => true,
     }
 }
 
-fn report<W: Write>(out: &mut W, record: u64) -> io::Result<()> {
-    writeln!(out, "record {record} differs")
-}
-
-// Counts on over the entries of a buffer, and names those that differ. An error is a write that failed.
-fn entries<W: Write>(input: &[u8], records: u64, differ: u64, out: &mut W) -> io::Result<Tally>
-    requires { (records + length input.now < 18446744073709551616) × (differ ≤ records) }
-    ensures { IfOk result (λ t. t ≡ tallied records differ input.now) }
-{
-    let mut d = differ;
-    for i in 0..input.len() / 76 {
-        if differs(&input[i * 76..i * 76 + 76]) {
-            report(out, records + (i as u64))?;
-            d += 1;
+impl Tally {
+    // Counts on over the entries of a buffer, and names those that differ. An error is a write that failed.
+    fn with<W: Write>(self, input: &[u8], out: &mut W) -> io::Result<Tally>
+        requires { (self.records + length input.now < 18446744073709551616) × (self.differ ≤ self.records) }
+        ensures { IfOk result (λ t. t ≡ tallied self.records self.differ input.now) }
+    {
+        let (entries, _) = input.as_chunks::<76>();
+        let mut tally = self;
+        for entry in entries {
+            if differs(entry) {
+                writeln!(out, "record {} differs", tally.records)?;
+                tally.differ += 1;
+            }
+            tally.records += 1;
         }
+        Ok(tally)
     }
-    Ok(Tally {
-        records: records + ((input.len() / 76) as u64),
-        differ: d,
-    })
 }
 
-// A buffer is 860 entries. The count of turns shows that the program ends and that the sums fit: no input has so many.
+// The range shows that the program ends and that the sums fit: no input fills so many buffers.
 fn main(rt: HostRuntime) -> io::Result<()> {
     let mut reader = rt.stdin();
     let mut out = rt.stdout();
-    let mut input = [0u8; 65360];
-    let mut turns: u64 = 1_000_000_000_000;
-    let mut records: u64 = 0;
-    let mut differ: u64 = 0;
-    let mut n = 65360;
-    while turns > 0 && n == 65360 {
-        let f = stream::fill(&mut reader, &mut input);
-        if f.failed {
-            return Err(Error::other("standard input cannot be read"));
+    let mut input = [0u8; INPUT];
+    let mut tally = Tally {
+        records: 0,
+        differ: 0,
+    };
+    for turn in 0..1_000_000_000_000u64 {
+        let n = stream::fill(&mut reader, &mut input)?;
+        tally = tally.with(&input[..n], &mut out)?;
+        if n < INPUT {
+            if n % 76 != 0 {
+                out.write_all(b"short\n")?;
+            }
+            break;
         }
-        n = f.count;
-        let t = entries(&input[..n], records, differ, &mut out)?;
-        records = t.records;
-        differ = t.differ;
-        turns -= 1;
     }
-    if n % 76 != 0 {
-        out.write_all(b"short\n")?;
-    }
-    writeln!(out, "{records} records, {differ} differ")
+    writeln!(out, "{} records, {} differ", tally.records, tally.differ)
 }

@@ -1,103 +1,58 @@
 // Messages one after the other, from an empty record on.
 use crate::six;
-use cases::show;
+use crate::six::{Message, Six};
 use std::io;
 
-// ---- each place by its own messages
-
-fn first_messages(rt: &impl Print, tile: &mut [u8; 48], record: &mut [u32; 6]) -> io::Result<()> {
-    six::placed(rt, tile, record, 1, 2, 100, 1)?;
-    six::placed(rt, tile, record, 0, 0, 65535, 2)?;
-    six::placed(rt, tile, record, 0, 2, 0, 3)?;
-    six::placed(rt, tile, record, 1, 0, 32768, 4)?;
-    six::placed(rt, tile, record, 0, 1, 7, 5)?;
-    six::placed(rt, tile, record, 1, 1, 7, 6)
-}
-
-fn more_messages(rt: &impl Print, tile: &mut [u8; 48], record: &mut [u32; 6]) -> io::Result<()> {
-    six::placed(rt, tile, record, 1, 2, 101, 7)?;
-    six::placed(rt, tile, record, 0, 0, 0, 8)?;
-    six::placed(rt, tile, record, 0, 2, 65535, 9)?;
-    six::placed(rt, tile, record, 1, 0, 0, 10)?;
-    six::placed(rt, tile, record, 0, 1, 7, 11)?;
-    six::placed(rt, tile, record, 1, 1, 7, 6)
-}
-
+// Each place by its own messages.
 fn places(rt: &impl Print) -> io::Result<()> {
-    let mut tile = six::tile();
-    let mut record = [0u32; 6];
-    first_messages(rt, &mut tile, &mut record)?;
-    more_messages(rt, &mut tile, &mut record)
+    let mut six = Six::with([0; 6]);
+    for message in [
+        Message(1, 2, 100, 1),
+        Message(0, 0, 65535, 2),
+        Message(0, 2, 0, 3),
+        Message(1, 0, 32768, 4),
+        Message(0, 1, 7, 5),
+        Message(1, 1, 7, 6),
+        Message(1, 2, 101, 7),
+        Message(0, 0, 0, 8),
+        Message(0, 2, 65535, 9),
+        Message(1, 0, 0, 10),
+        Message(0, 1, 7, 11),
+        Message(1, 1, 7, 6),
+    ] {
+        six::placed(rt, &mut six, message)?;
+    }
+    Ok(())
 }
 
-// ---- two messages for the last place
-
-fn two(rt: &impl Print, first: u16, number: u8, second: u16, other: u8) -> io::Result<()> {
-    let mut tile = six::tile();
-    let mut record = [0u32; 6];
-    show::number(rt, first as usize)?;
-    show::text(rt, " then ")?;
-    show::number(rt, second as usize)?;
-    show::text(rt, ":")?;
-    six::arrives(rt, &mut tile, &mut record, 1, 2, first, number)?;
-    six::arrives(rt, &mut tile, &mut record, 1, 2, second, other)?;
-    six::held(rt, &tile, &record)
-}
-
+// Two messages for the last place: their editions, and the number of the second's bytes, where the first's is 1.
 fn pairs(rt: &impl Print) -> io::Result<()> {
-    two(rt, 65535, 1, 0, 2)?;
-    two(rt, 0, 1, 65535, 2)?;
-    two(rt, 0, 1, 32767, 2)?;
-    two(rt, 0, 1, 32768, 2)?;
-    two(rt, 0, 1, 32769, 2)?;
-    two(rt, 5, 1, 5, 2)?;
-    two(rt, 5, 1, 5, 1)
+    for (first, second, number) in [
+        (65535, 0, 2),
+        (0, 65535, 2),
+        (0, 32767, 2),
+        (0, 32768, 2),
+        (0, 32769, 2),
+        (5, 5, 2),
+        (5, 5, 1),
+    ] {
+        let mut six = Six::with([0; 6]);
+        let one = six.receive(Message(1, 2, first, 1));
+        let other = six.receive(Message(1, 2, second, number));
+        println!(rt; "{first} then {second}: {one} {other}, {six}")?;
+    }
+    Ok(())
 }
 
-// ---- three messages in any order, each of them twice or three times, for the last place
-
-// An edition has one content.
-fn last(
-    rt: &impl Print,
-    tile: &mut [u8; 48],
-    record: &mut [u32; 6],
-    edition: u16,
-) -> io::Result<()> {
-    six::arrives(rt, tile, record, 1, 2, edition, (edition % 16) as u8)
-}
-
-fn repeated(
-    rt: &impl Print,
-    tile: &mut [u8; 48],
-    record: &mut [u32; 6],
-    a: u16,
-    b: u16,
-    c: u16,
-) -> io::Result<()> {
-    last(rt, tile, record, a)?;
-    last(rt, tile, record, a)?;
-    last(rt, tile, record, b)?;
-    last(rt, tile, record, a)?;
-    last(rt, tile, record, c)?;
-    last(rt, tile, record, b)?;
-    last(rt, tile, record, c)
-}
-
-fn three(rt: &impl Print, a: u16, b: u16, c: u16) -> io::Result<()> {
-    show::number(rt, a as usize)?;
-    show::text(rt, " ")?;
-    show::number(rt, b as usize)?;
-    show::text(rt, " ")?;
-    show::number(rt, c as usize)?;
-    show::text(rt, ":")
-}
-
+// Three messages, each of them twice or three times, for the last place. An edition has one content.
 fn order(rt: &impl Print, a: u16, b: u16, c: u16) -> io::Result<()> {
-    let mut tile = six::tile();
-    let mut record = [0u32; 6];
-    three(rt, a, b, c)?;
-    repeated(rt, &mut tile, &mut record, a, b, c)?;
-    six::held(rt, &tile, &record)
+    let mut six = Six::with([0; 6]);
+    print!(rt; "{a} {b} {c}:")?;
+    for edition in [a, a, b, a, c, b, c] {
+        let answer = six.receive(Message(1, 2, edition, (edition % 16) as u8));
+        print!(rt; " {answer}")?;
+    }
+    println!(rt; ", {six}")
 }
 
 fn orders(rt: &impl Print, a: u16, b: u16, c: u16) -> io::Result<()> {

@@ -1,114 +1,82 @@
 // Sides of 1,024 and more, at places in the corners. A line shows tile and record by their checksums.
-ghost use Rattle.std.specs.Prelude.{◌<◌};
-
-use crate::line;
+use crate::line::Handed;
+use crate::shapes::RIGHT;
 use cases::{given, show};
 use std::io;
 
-fn wide(n: u32) -> u64
-    ensures { result < 4294967296 }
-{
-    n as u64
-}
-
-// As `show::checksum`, of entries.
-fn record_checksum(rt: &impl Print, record: &[u32]) -> io::Result<()> {
-    let mut sum: u64 = 0;
-    for i in 0..record.len() {
-        sum = (sum * 257 + wide(record[i]) + 1) % 4294967291;
-    }
-    show::number(rt, sum as usize)
-}
-
-fn held(rt: &impl Print, tile: &[u8], record: &[u32]) -> io::Result<()> {
-    show::text(rt, ", tile ")?;
-    show::checksum(rt, tile)?;
-    show::text(rt, ", record ")?;
-    record_checksum(rt, record)?;
-    show::text(rt, "\n")
+fn received(
+    rt: &impl Print,
+    handed: Handed,
+    tile: &mut [u8],
+    record: &mut [u32],
+) -> io::Result<()> {
+    let answer = handed.receive(tile, record);
+    println!(rt;
+        "{handed}: {answer}, tile {:08x}, record {}",
+        show::checksum(tile),
+        show::checksum(record),
+    )
 }
 
 // A row or a column of 256 blocks or 257.
-fn lane(
-    rt: &impl Print,
-    width: usize,
-    height: usize,
-    long: usize,
-    entries: usize,
-    column: usize,
-    row: usize,
-) -> io::Result<()> {
-    let mut tile = [0u8; 2056];
-    given::fill_bytes(&mut tile);
-    let mut record = [6u32; 257];
-    let sent = line::eight(11);
-    line::receive(
-        rt,
-        &mut tile,
-        long,
-        &mut record,
-        entries,
-        width,
-        height,
-        column,
-        row,
-        6,
-        &sent,
-    )?;
-    held(rt, &tile, &record)
-}
-
-fn rows(rt: &impl Print) -> io::Result<()> {
-    lane(rt, 1024, 4, 2048, 256, 0, 0)?;
-    lane(rt, 1024, 4, 2048, 256, 255, 0)?;
-    lane(rt, 1024, 4, 2048, 256, 256, 0)?;
-    lane(rt, 1024, 4, 2048, 256, 0, 1)?;
-    lane(rt, 1028, 4, 2056, 257, 0, 0)
-}
-
-fn columns(rt: &impl Print) -> io::Result<()> {
-    lane(rt, 4, 1024, 2048, 256, 0, 0)?;
-    lane(rt, 4, 1024, 2048, 256, 0, 255)?;
-    lane(rt, 4, 1024, 2048, 256, 0, 256)?;
-    lane(rt, 4, 1024, 2048, 256, 1, 0)?;
-    lane(rt, 4, 1028, 2056, 257, 0, 0)
+fn lanes(rt: &impl Print) -> io::Result<()> {
+    for (width, height, bytes, entries, column, row) in [
+        (1024, 4, 2048, 256, 0, 0),
+        (1024, 4, 2048, 256, 255, 0),
+        (1024, 4, 2048, 256, 256, 0),
+        (1024, 4, 2048, 256, 0, 1),
+        (1028, 4, 2056, 257, 0, 0),
+        (4, 1024, 2048, 256, 0, 0),
+        (4, 1024, 2048, 256, 0, 255),
+        (4, 1024, 2048, 256, 0, 256),
+        (4, 1024, 2048, 256, 1, 0),
+        (4, 1028, 2056, 257, 0, 0),
+    ] {
+        let mut tile: [u8; 2056] = given::bytes();
+        let mut record = [6; 257];
+        let handed = Handed {
+            width,
+            height,
+            bytes,
+            entries,
+            column,
+            row,
+            ..RIGHT
+        };
+        received(rt, handed, &mut tile, &mut record)?;
+    }
+    Ok(())
 }
 
 // Of 1,024 by 1,024.
-fn corner(
-    rt: &impl Print,
-    tile: &mut [u8],
-    record: &mut [u32],
-    entries: usize,
-    column: usize,
-    row: usize,
-) -> io::Result<()> {
-    let sent = line::eight(11);
-    line::receive(
-        rt, tile, 524288, record, entries, 1024, 1024, column, row, 6, &sent,
-    )?;
-    held(rt, tile, record)
-}
-
-fn corners(rt: &impl Print, tile: &mut [u8], record: &mut [u32]) -> io::Result<()> {
-    corner(rt, tile, record, 65535, 0, 0)?;
-    corner(rt, tile, record, 65536, 255, 255)?;
-    corner(rt, tile, record, 65536, 255, 0)?;
-    corner(rt, tile, record, 65536, 0, 255)?;
-    corner(rt, tile, record, 65536, 255, 255)?;
-    corner(rt, tile, record, 65536, 256, 255)?;
-    corner(rt, tile, record, 65536, 255, 256)
-}
-
-fn largest(rt: &(impl Print + AllocGlobal)) -> io::Result<()> {
+fn corners(rt: &(impl Print + AllocGlobal)) -> io::Result<()> {
     let mut tile = vec![in rt.alloc(); 0u8; 524288]?;
     given::fill_bytes(tile.as_mut_slice());
     let mut record = vec![in rt.alloc(); 0u32; 65536]?;
-    corners(rt, tile.as_mut_slice(), record.as_mut_slice())
+    for (entries, column, row) in [
+        (65535, 0, 0),
+        (65536, 255, 255),
+        (65536, 255, 0),
+        (65536, 0, 255),
+        (65536, 255, 255),
+        (65536, 256, 255),
+        (65536, 255, 256),
+    ] {
+        let handed = Handed {
+            width: 1024,
+            height: 1024,
+            bytes: 524288,
+            entries,
+            column,
+            row,
+            ..RIGHT
+        };
+        received(rt, handed, tile.as_mut_slice(), record.as_mut_slice())?;
+    }
+    Ok(())
 }
 
 pub fn cases(rt: &(impl Print + AllocGlobal)) -> io::Result<()> {
-    rows(rt)?;
-    columns(rt)?;
-    largest(rt)
+    lanes(rt)?;
+    corners(rt)
 }

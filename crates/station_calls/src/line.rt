@@ -1,7 +1,10 @@
 // What a line is made of. A tile is shown by its bytes, a record by its entries, all that was lent and what lies past it.
-use cases::show;
+use cases::given;
+use cases::show::{Answer, Hex};
+use refusal::Refusal;
 use station::Received;
-use std::io;
+use std::fmt;
+use std::fmt::Display;
 
 // The bytes of a message by a number, which is their first digit: from 0 to 15 they all are others.
 pub fn eight(number: u8) -> [u8; 8] {
@@ -9,100 +12,73 @@ pub fn eight(number: u8) -> [u8; 8] {
     [b, b + 1, b + 2, b + 3, b + 4, b + 5, b + 6, b + 7]
 }
 
-pub fn received(rt: &impl Print, answer: Received) -> io::Result<()> {
-    match answer {
-        Received::Taken => show::text(rt, "taken"),
-        Received::Repeated => show::text(rt, "repeated"),
-        Received::Replaced => show::text(rt, "replaced"),
-        Received::Old => show::text(rt, "old"),
-        Received::Refused(q) => show::refused(rt, q),
-    }
+// Those of 11, and one more than is right.
+const NINE: [u8; 9] = [0xb0, 0xb1, 0xb2, 0xb3, 0xb4, 0xb5, 0xb6, 0xb7, 0xb8];
+
+// What became of a message.
+pub fn became(answer: Result<Received, Refusal>) -> Answer<&'static str> {
+    Answer(answer.map(|received| match received {
+        Received::Taken => "taken",
+        Received::Repeated => "repeated",
+        Received::Replaced => "replaced",
+        Received::Old => "old",
+    }))
 }
 
-fn entry(rt: &impl Print, n: u32) -> io::Result<()> {
-    show::text(rt, " ")?;
-    show::number(rt, n as usize)
-}
+// A record's entries, each after a space.
+#[derive(Clone, Copy)]
+pub struct Entries<'a>(pub &'a [u32]);
 
-pub fn record(rt: &impl Print, entries: &[u32]) -> io::Result<()> {
-    for k in 0..entries.len() {
-        entry(rt, entries[k])?;
-    }
-    Ok(())
-}
-
-// At the end of a line.
-pub fn held(rt: &impl Print, tile: &[u8], entries: &[u32]) -> io::Result<()> {
-    show::text(rt, ", ")?;
-    show::bytes(rt, tile)?;
-    record(rt, entries)?;
-    show::text(rt, "\n")
-}
-
-fn lengths(
-    rt: &impl Print,
-    width: usize,
-    height: usize,
-    long: usize,
-    entries: usize,
-) -> io::Result<()> {
-    show::size(rt, width, height)?;
-    show::text(rt, ", ")?;
-    show::byte_count(rt, long)?;
-    show::text(rt, ", ")?;
-    show::number(rt, entries)?;
-    show::text(rt, " entries, at ")
-}
-
-fn message(
-    rt: &impl Print,
-    column: usize,
-    row: usize,
-    edition: u16,
-    block: &[u8],
-) -> io::Result<()> {
-    show::number(rt, column)?;
-    show::text(rt, " ")?;
-    show::number(rt, row)?;
-    show::text(rt, " edition ")?;
-    show::number(rt, edition as usize)?;
-    show::text(rt, " [")?;
-    show::bytes(rt, block)?;
-    show::text(rt, "]: ")
-}
-
-// A message into the first `long` bytes and the first `entries` entries.
-pub fn receive(
-    rt: &impl Print,
-    tile: &mut [u8],
-    long: usize,
-    record: &mut [u32],
-    entries: usize,
-    width: usize,
-    height: usize,
-    column: usize,
-    row: usize,
-    edition: u16,
-    block: &[u8],
-) -> io::Result<()> {
-    lengths(rt, width, height, long, entries)?;
-    message(rt, column, row, edition, block)?;
-    if long <= tile.len() {
-        if entries <= record.len() {
-            received(
-                rt,
-                station::receive(
-                    &mut tile[0..long],
-                    &mut record[0..entries],
-                    width,
-                    height,
-                    column,
-                    row,
-                    edition,
-                    block,
-                ),
-            )?;
+impl Display for Entries<'_> {
+    fn fmt<W: fmt::Write>(&self, f: &mut fmt::Formatter<W>) -> fmt::Result {
+        for entry in self.0 {
+            write!(f, " {entry}")?;
         }
+        Ok(())
     }
-    Ok(())
+}
+
+// What a station is handed: the size of its tile, how many bytes and entries of what there is, and a message of the first `block` bytes of the nine.
+#[derive(Clone, Copy)]
+pub struct Handed {
+    pub width: usize,
+    pub height: usize,
+    pub bytes: usize,
+    pub entries: usize,
+    pub column: usize,
+    pub row: usize,
+    pub edition: u16,
+    pub block: usize,
+}
+
+impl Handed {
+    pub fn receive(&self, tile: &mut [u8], record: &mut [u32]) -> Answer<&'static str> {
+        became(station::receive(
+            given::first_mut(tile, self.bytes),
+            given::first_mut(record, self.entries),
+            self.width,
+            self.height,
+            self.column,
+            self.row,
+            self.edition,
+            given::first(&NINE, self.block),
+        ))
+    }
+}
+
+impl Display for Handed {
+    fn fmt<W: fmt::Write>(&self, f: &mut fmt::Formatter<W>) -> fmt::Result {
+        write!(
+            f,
+            "{} by {}, {} bytes, {} entries, at {} {} edition {} [{}]",
+            self.width,
+            self.height,
+            self.bytes,
+            self.entries,
+            self.column,
+            self.row,
+            self.edition,
+            Hex(given::first(&NINE, self.block)),
+        )
+    }
 }

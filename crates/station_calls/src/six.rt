@@ -1,52 +1,59 @@
 // A tile of 2 by 3 blocks, any bytes, and its record.
 use crate::line;
-use cases::{given, show};
-use std::io;
+use crate::line::Entries;
+use cases::given;
+use cases::show::{Answer, Hex};
+use std::fmt;
+use std::fmt::Display;
 
-pub fn tile() -> [u8; 48] {
-    let mut t = [0u8; 48];
-    given::fill_bytes(&mut t);
-    t
+#[derive(Clone, Copy)]
+pub struct Six {
+    tile: [u8; 48],
+    record: [u32; 6],
 }
 
-pub fn arrives(
-    rt: &impl Print,
-    tile: &mut [u8; 48],
-    record: &mut [u32; 6],
-    column: usize,
-    row: usize,
-    edition: u16,
-    number: u8,
-) -> io::Result<()> {
-    let sent = line::eight(number);
-    show::text(rt, " ")?;
-    line::received(
-        rt,
-        station::receive(tile, record, 8, 12, column, row, edition, &sent),
-    )
+// A message: its place, its edition, and the number of its bytes.
+#[derive(Clone, Copy)]
+pub struct Message(pub usize, pub usize, pub u16, pub u8);
+
+impl Six {
+    pub fn with(record: [u32; 6]) -> Six {
+        Six {
+            tile: given::bytes(),
+            record,
+        }
+    }
+
+    pub fn receive(&mut self, message: Message) -> Answer<&'static str> {
+        let Message(column, row, edition, number) = message;
+        let sent = line::eight(number);
+        line::became(station::receive(
+            &mut self.tile,
+            &mut self.record,
+            8,
+            12,
+            column,
+            row,
+            edition,
+            &sent,
+        ))
+    }
+
+    // The first entries of its record.
+    pub fn clear(&mut self, entries: usize) {
+        station::clear(given::first_mut(&mut self.record, entries));
+    }
 }
 
-pub fn held(rt: &impl Print, tile: &[u8; 48], record: &[u32; 6]) -> io::Result<()> {
-    line::held(rt, tile, record)
+impl Display for Six {
+    fn fmt<W: fmt::Write>(&self, f: &mut fmt::Formatter<W>) -> fmt::Result {
+        write!(f, "{}{}", Hex(&self.tile), Entries(&self.record))
+    }
 }
 
 // A line of one message.
-pub fn placed(
-    rt: &impl Print,
-    tile: &mut [u8; 48],
-    record: &mut [u32; 6],
-    column: usize,
-    row: usize,
-    edition: u16,
-    number: u8,
-) -> io::Result<()> {
-    show::text(rt, "at ")?;
-    show::number(rt, column)?;
-    show::text(rt, " ")?;
-    show::number(rt, row)?;
-    show::text(rt, ", edition ")?;
-    show::number(rt, edition as usize)?;
-    show::text(rt, ":")?;
-    arrives(rt, tile, record, column, row, edition, number)?;
-    held(rt, tile, record)
+pub fn placed(rt: &impl Print, six: &mut Six, message: Message) -> std::io::Result<()> {
+    let Message(column, row, edition, _) = message;
+    let answer = six.receive(message);
+    println!(rt; "at {column} {row}, edition {edition}: {answer}, {six}")
 }

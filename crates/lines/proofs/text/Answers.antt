@@ -3,11 +3,9 @@ use mathlib.Core.List.{append-nil}
 use Prim.Native.Nat.{◌/◌}
 use native.Mathlib.Omega.{arith}
 use lib.ListN.{length}
-use Rattle.lines.specs.Output.{short_line}
 use Rattle.lines.specs.Answers.{text_of}
 use Rattle.lines.proofs.Laws.{put_more, lines_room}
 use borrow.Author.Tests.{ne_eqb}
-use mathlib.Core.Path.{refl}
 use Rattle.std.proofs.Common.{rules}
 use Rattle.lines.proofs.text.Goals as goal
 
@@ -15,8 +13,8 @@ pub returns-then-input-eq0 : goal.returns-then-input-eq0
 unfolding text_of
 returns-then-input-eq0 c = rw (c.if-input-eq0.true, append-nil) c.lines-at.ensures
 
-pub slice_bounds-copy_from_slice-end : goal.slice_bounds-copy_from_slice-end
-slice_bounds-copy_from_slice-end c =
+pub put-requires : goal.put-requires
+put-requires c =
     let input = c.args.input.now in
     let most = lines_room input (length input / 68) c.lines-at.ensures in
     search rules
@@ -26,4 +24,4 @@ unfolding text_of
 returns c =
     let input = c.args.input.now in
     let most = lines_room input (length input / 68) c.lines-at.ensures in
-    rw (ne_eqb _ _ c.if-input-eq0.false, c.copy_from_slice.ensures.after) (put_more short_line 6 refl c.lines-at.ensures (omega arith)).0
+    rw (ne_eqb _ _ c.if-input-eq0.false) (put_more c.lines-at.ensures c.put.ensures (omega arith)).0

@@ -1,18 +1,29 @@
 -- `replay::differs` meets its contract, case by case.
-use Rattle.std.proofs.Common.{◌≡◌, arith, true, sym, refl, ap, subst, eqb, not, length-take-le}
+use Rattle.std.proofs.Common.{◌≡◌, ℕ, ◌+◌, ◌-◌, List, length, drop, get_or, arith, refl}
+use Rattle.std.proofs.lemmas.List.{get_or-drop}
+use Rattle.std.specs.Int.{w64, from_le_bytes}
+use Rattle.fields.proofs.Laws.{four_bytes}
 use Rattle.replay.specs.Entry.{rust_of, unlike, differs_of}
 use Rattle.replay.proofs.differs.Goals as goal
 
-pub slice_bounds-answer_to-end : goal.slice_bounds-answer_to-end
-slice_bounds-answer_to-end c = sym (length-take-le 68 _ (omega arith))
+-- the number of the last eight bytes, and their two fields
+rust_is : (entry : List ℕ) → length entry ≡ 76 → from_le_bytes w64 (drop (length entry - 8) entry) ≡ rust_of entry
+rust_is entry e =
+    let start : length entry - 8 ≡ 68 = omega arith in
+    let at : (i : ℕ) → get_or (drop 68 entry) i 0 ≡ get_or entry (68 + i) 0 = λ i. get_or-drop 68 entry i 0 in
+    rw start (omega (arith, at 0, at 1, at 2, at 3, at 4, at 5, at 6, at 7, four_bytes entry 68 (omega arith), four_bytes entry 72 (omega arith)))
 
-pub returns-in-Block : goal.returns-in-Block
+pub returns-in-Ok : goal.returns-in-Ok
 unfolding differs_of unlike
-returns-in-Block c =
+returns-in-Ok c =
     let entry = c.args.entry.now in
-    let rust : c.joined-rust.result ≡ rust_of entry = rw (c.joined-rust.ensures, c.read_u32.ensures, c.read_u32-2.ensures) refl in
-    subst (λ a. not (eqb c.in-Block.block c.joined-rust.result) ≡ unlike a (rust_of entry)) c.in-Block.ensures (ap (λ r. not (eqb c.in-Block.block r)) rust)
+    let first = rw c.unwrap-record.ensures at c.first_chunk.ensures.cases in
+    let last = rw c.unwrap.ensures at c.last_chunk.ensures.cases in
+    let rust : c.from_le_bytes-rust.result ≡ rust_of entry = rw (c.from_le_bytes-rust.ensures, last.1.same) (rust_is entry (omega arith)) in
+    rw (← first.same, ← c.answer_to.ensures, c.in-Ok.is, rust) refl
 
-pub returns-in-Refused : goal.returns-in-Refused
+pub returns-in-Err : goal.returns-in-Err
 unfolding differs_of unlike
-returns-in-Refused c = subst (λ a. true ≡ unlike a (rust_of c.args.entry.now)) c.in-Refused.ensures refl
+returns-in-Err c =
+    let first = rw c.unwrap-record.ensures at c.first_chunk.ensures.cases in
+    rw (← first.same, ← c.answer_to.ensures, c.in-Err.is) refl

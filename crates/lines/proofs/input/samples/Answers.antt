@@ -1,15 +1,10 @@
--- `lines::input::samples` meets its contract: the array is filled from its start.
-use mathlib.Core.Path.{ap, ◌∙◌}
-use native.Mathlib.Omega.{arith}
-use lib.Ieee.{binary32, of_bits}
-use Rattle.block.proofs.Fill.{fill_step, fill_end}
-use Rattle.lines.specs.Input.{samples_of}
+-- `lines::input::samples` meets its contract: each sample is the float of its four bytes.
+use lib.Ieee.{binary32, nan, of_bits}
 use Rattle.std.proofs.Common.{rules}
+use Rattle.block.proofs.Made.{made}
+use Rattle.lines.specs.Input.{pattern_at, samples_of}
 use Rattle.lines.proofs.input.samples.Goals as goal
-
-pub loop-i-preserved : goal.loop-i-preserved
-loop-i-preserved c = fill_step c.loop-i.invariant (search rules) (c.float_of.ensures ∙ ap (of_bits binary32) c.pattern.ensures)
 
 pub returns : goal.returns
 unfolding samples_of
-returns c = fill_end c.loop-i.invariant (omega arith)
+returns c = made _ _ (λ i. of_bits binary32 (pattern_at c.args.record.now i)) 16 (λ i y q l k. search rules) nan _ c.from_fn.ensures.items

@@ -1,8 +1,11 @@
-use mathlib.Core.Path.{refl}
-use Rattle.lines.specs.Output.{hex_line}
-use Rattle.std.proofs.Common.{rules}
+-- `lines::output::hex` meets its contract: the digits of each byte, in order, and a line feed.
+use Rattle.std.proofs.Common.{rules, refl, [], ◌∷◌, ◌/◌, ◌%◌}
+use Rattle.lines.specs.Output.{digit, hex_line}
+use Rattle.lines.proofs.Mapped.{mapped}
 use Rattle.lines.proofs.output.hex.Goals as goal
 
 pub returns : goal.returns
 unfolding hex_line
-returns c = record { size = refl; within = search rules; same = simp (c.digits-d7.ensures.0, c.digits-d7.ensures.1, c.digits-d6.ensures.0, c.digits-d6.ensures.1, c.digits-d5.ensures.0, c.digits-d5.ensures.1, c.digits-d4.ensures.0, c.digits-d4.ensures.1, c.digits-d3.ensures.0, c.digits-d3.ensures.1, c.digits-d2.ensures.0, c.digits-d2.ensures.1, c.digits-d1.ensures.0, c.digits-d1.ensures.1, c.digits-d0.ensures.0, c.digits-d0.ensures.1, c.bytes-b.ensures) }
+returns c =
+    let pairs = mapped _ (λ b. digit (b / 16) ∷ digit (b % 16) ∷ []) 0 [] (λ p q x y k. search rules) (search rules) c.map-pairs.ensures.items in
+    rw (c.copy_from_slice.ensures.after, c.as_flattened.ensures.value, pairs, c.bytes.ensures) refl

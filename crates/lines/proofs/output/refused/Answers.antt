@@ -1,8 +1,7 @@
-use mathlib.Core.Path.{refl}
+use Rattle.std.proofs.Common.{refl}
 use Rattle.lines.specs.Output.{refused_line}
-use Rattle.std.proofs.Common.{rules}
 use Rattle.lines.proofs.output.refused.Goals as goal
 
 pub returns : goal.returns
 unfolding refused_line
-returns c = record { size = refl; within = search rules; same = refl }
+returns c = refl
