@@ -53,7 +53,6 @@ pub fn read(flags: u8, limit: u8, quality: u8, last: u8) -> Word
     }
 }
 
-#[tactic(auto, using(refusal::proofs::Firsts::word_last))]
 pub fn encode_block(samples: &[f32], w: Word) -> Result<u64, Refusal>
     ensures { result ≡ encode_by_word samples.now w }
 {
@@ -63,7 +62,6 @@ pub fn encode_block(samples: &[f32], w: Word) -> Result<u64, Refusal>
     crate::encode_block(samples, w.options)
 }
 
-#[tactic(auto, using(refusal::proofs::Firsts::word_last))]
 pub fn resend(samples: &[f32], held: &[u8], w: Word) -> Result<Kept, Refusal>
     ensures { result ≡ resend_by_word samples.now held.now w }
 {
@@ -73,7 +71,6 @@ pub fn resend(samples: &[f32], held: &[u8], w: Word) -> Result<Kept, Refusal>
     crate::resend(samples, held, w.options)
 }
 
-#[tactic(auto, using(refusal::proofs::Firsts::word_last))]
 pub fn encode_tile(
     samples: &[f32],
     width: usize,

@@ -32,6 +32,11 @@ handed_on (Err p) e = ap Err e
 pub passes : (done : ⊤) {c : Checked} → Ok done ≡ c → Ok tt ≡ c
 passes tt e = e
 
+-- Checks alone answer no more than a refusal.
+pub no_value : (c : Checked) → refusal_in c ≡ c
+no_value (Ok tt) = refl
+no_value (Err q) = refl
+
 -- An answer refuses as its checks do.
 pub refusal_of : {A : Type 0} (value : A) (c : Checked) → refusal_in (answered Err (Ok value) c) ≡ c
 refusal_of value (Ok tt) = refl
