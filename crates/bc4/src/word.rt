@@ -7,7 +7,7 @@ use crate::Kept;
 use options::{Options, Quantization};
 use refusal::Refusal;
 
-// The options of a malformed word matter only to what is checked before it: a resend with dither.
+// A flag beside the options, and no Result: a malformed word is refused after all else, and a resend with dither by its options before that.
 #[derive(Clone, Copy)]
 pub struct Word {
     pub options: Options,
@@ -31,6 +31,7 @@ fn options(flags: u8, limit: u8, quality: Quantization) -> Options
     }
 }
 
+// Not a TryFrom: a malformed word has options too.
 fn quality_of(byte: u8) -> Quantization
     ensures { result ≡ quality_of byte }
 {

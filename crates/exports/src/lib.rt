@@ -120,17 +120,11 @@ pub extern "C" fn bc4_resend(
     match bc4::word::resend(samples, held, word_in(options)) {
         Ok(h) => {
             *block = bc4::bytes(h.block);
-            *fresh = bit(h.fresh);
+            *fresh = u8::from(h.fresh);
             0
         }
         Err(q) => refused(q, detail),
     }
-}
-
-fn bit(b: bool) -> u8
-    ensures { result ≡ cond b 1 0 }
-{
-    if b { 1 } else { 0 }
 }
 
 #[unsafe(no_mangle)]
@@ -226,7 +220,7 @@ pub extern "C" fn bc4_read_dds(
         Ok(picture) => {
             *width = picture.width;
             *height = picture.height;
-            *snorm = bit(picture.snorm);
+            *snorm = u8::from(picture.snorm);
             *offset = picture.start;
             0
         }
