@@ -27,12 +27,8 @@ pub extern "C" fn bc4_version() -> u32
 fn word_in(options: u32) -> Word
     ensures { result ≡ word_of_number options }
 {
-    bc4::word::read(
-        (options % 256) as u8,
-        (options / 256 % 256) as u8,
-        (options / 65536 % 256) as u8,
-        (options / 16777216) as u8,
-    )
+    let [flags, limit, quality, last] = options.to_le_bytes();
+    bc4::word::read(flags, limit, quality, last)
 }
 
 // A refusal's number, and into `detail` what it brings with it: what, index, row and column.
