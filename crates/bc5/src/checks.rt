@@ -34,6 +34,7 @@ pub fn encode(first: &[f32], second: &[f32]) -> Result<(), Refusal>
     no_nans(first, second)
 }
 
+// As `refusal::decode`, for twice the bytes. One function for both would be handed no more than the length that it compares with.
 #[tactic(auto, unfolding(refusal::specs::Refusals::first_of))]
 pub fn decode(encoded: &[u8]) -> Result<(), Refusal>
     ensures { result ≡ first_of (decode_checks encoded.now) }

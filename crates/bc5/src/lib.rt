@@ -123,7 +123,8 @@ pub fn encode_tile(
     Ok(size.encoded_length(place::BC5_SIZE))
 }
 
-// The sixteen bytes of one block: that part of the caller's tile, or an empty part where `view_refusal` refuses.
+// The sixteen bytes of one block: that part of the caller's tile, or an empty part where `view_refusal` refuses. This and the next are calls of `bc5` as
+// those of `bc4` are its own; what they share is `tile::block_part` and `refusal::view_of`.
 pub fn block_view(tile: &[u8], width: usize, height: usize, column: usize, row: usize) -> &[u8]
     ensures { result.now ≡ view_of tile.now width height column row }
 {

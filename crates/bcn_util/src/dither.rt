@@ -86,6 +86,7 @@ pub fn dither<P: Palette>(b: &[f32; 16], c0: f32, c1: f32) -> Indexed
     let mut map = [0.0f32; 16];
     let mut indexes = IndexList::new_empty();
     let mut error = 0.0f32;
+    // By place: what is left of an error goes to the places after it.
     for i in 0..16usize {
         let pixel = asked(b, &map, i);
         let c = palette.closest(pixel);

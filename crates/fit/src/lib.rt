@@ -11,7 +11,8 @@ use floats::Pair;
 use palette::inter6;
 use palette::inter6::Inter6Palette;
 
-// Four pixels down a lane: their weights w, the sums of w·w, w·v and v·v with v = 1 - w, and whether the blends are all above -1.
+// Four pixels down a lane: their weights w, the sums of w·w, w·v and v·v with v = 1 - w, and whether the blends are all above -1. The
+// weights have names and are no array: compiled they are the same, and no weight is looked up by a number that is known.
 #[derive(Clone, Copy)]
 pub struct Lane {
     pub w0: f32,

@@ -42,6 +42,7 @@ fn first_spot(samples: &[f32], size: Size) -> Option<Spot>
     })
 }
 
+// Four checks, of a block and a tile, alone or of a channel: what they share is above, and each makes a refusal of its own of it.
 #[tactic(auto, unfolding(crate::specs::Refusals::first_of))]
 pub fn no_nan(samples: &[f32]) -> Result<(), Refusal>
     ensures { result ≡ first_of (nan_check samples.now ∷ []) }

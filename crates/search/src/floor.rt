@@ -100,6 +100,7 @@ impl MaxFloors<'_> {
         let mut raised = [0.0f32; PART];
         raised[..n].copy_from_slice(&all[at..at + n]);
         let low = values::n8::f32(min);
+        // By place: from `at` on it is the max that is tried as well.
         for i in first_open(&raised[..n], held)..n {
             let high = values::n8::f32((at + i) as u8);
             raised[i] = floats::lane_max(raised[i], row_floor(self.block, low, high));
