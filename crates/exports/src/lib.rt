@@ -13,8 +13,8 @@ ghost use Rattle.exports.specs.DdsBorder.{file_written_after, width_after, heigh
 mod channels;
 mod messages;
 
-use bc4::word::Word;
 use bc4::Refusal;
+use bc4::word::Word;
 
 // Major, minor and patch number, a byte each: 3.2.0.
 #[unsafe(no_mangle)]

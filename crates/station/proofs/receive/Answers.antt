@@ -39,8 +39,12 @@ returns-in_err-message-clause-answer c =
 pub returns-in_err-received-clause-answer : goal.returns-in_err-received-clause-answer
 returns-in_err-received-clause-answer c =
     let more : c.block_at-at.result + bc4_size - c.block_at-at.result ≡ bc4_size = omega arith in
-    rw (handed_on c.from_residual-in_err-received.result c.from_residual-in_err-received.ensures.1,
-        passed_before (shape_checks _ _ _ _ _ _ _) _ (sym (passes _ c.in_ok-message.ensures)), ← c.block_at-at.ensures, ← c.block_at-entry.ensures)
+    rw (
+      handed_on c.from_residual-in_err-received.result c.from_residual-in_err-received.ensures.1,
+      passed_before (shape_checks _ _ _ _ _ _ _) _ (sym (passes _ c.in_ok-message.ensures)),
+      ← c.block_at-at.ensures,
+      ← c.block_at-entry.ensures,
+    )
     (rw more at c.in_err-received.ensures)
 
 pub returns-then-changes-clause-answer : goal.returns-then-changes-clause-answer
