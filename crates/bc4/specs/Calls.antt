@@ -9,7 +9,7 @@ use Rattle.decode.specs.Meaning.{decoded}
 use Rattle.decode.specs.BlockError.{block_error}
 use Rattle.place.specs.Place.{bc4_size, encoded_length, block_at}
 use Rattle.tile.specs.Tile.{tile_bytes}
-use Rattle.core.specs.declared.result.Result.TheVariants.{Ok, Err}
+use Rattle.std.specs.declared.result.Result.TheVariants.{Ok, Err}
 use Rattle.bc4.specs.declared.Kept.{Kept}
 use Rattle.refusal.specs.Refusals.{Answer, Checked, refusal_in, first_of, answered, encode_checks, error_checks, resend_checks, tile_checks, view_checks}
 

@@ -10,7 +10,7 @@ use Rattle.options.specs.declared.Options.{Options}
 use Rattle.options.specs.declared.Quantization.{Quantization}
 use Rattle.options.specs.declared.Quantization.TheVariants.{Round, MediumQuality, HighQuality}
 use Rattle.bc4.specs.declared.word.Word.{Word}
-use Rattle.core.specs.declared.result.Result.TheVariants.{Ok, Err}
+use Rattle.std.specs.declared.result.Result.TheVariants.{Ok, Err}
 use Rattle.index_list.specs.Layout.{from_bytes}
 use Rattle.encode.specs.Encoder.{compressed}
 use Rattle.place.specs.Place.{bc4_size, encoded_length}

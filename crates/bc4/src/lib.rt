@@ -12,7 +12,7 @@ pub mod word;
 pub use options::{Options, Quantization};
 pub use refusal::{Refusal, Side, Spot, number};
 
-// The bytes to hold from now on, and whether they are the fresh ones.
+// The bytes to hold from now on, and whether they are the fresh ones. Both are handed on in either case, so that an enum of the two is no plainer.
 #[derive(Clone, Copy)]
 pub struct Kept {
     pub block: u64,

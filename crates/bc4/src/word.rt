@@ -7,7 +7,7 @@ use crate::Kept;
 use options::{Options, Quantization};
 use refusal::Refusal;
 
-// The options of a malformed word matter only to what is checked before it: a resend with dither.
+// A flag beside the options, and no Result: a malformed word is refused after all else, and a resend with dither by its options before that.
 #[derive(Clone, Copy)]
 pub struct Word {
     pub options: Options,
@@ -31,6 +31,7 @@ fn options(flags: u8, limit: u8, quality: Quantization) -> Options
     }
 }
 
+// Not a TryFrom: a malformed word has options too.
 fn quality_of(byte: u8) -> Quantization
     ensures { result ≡ quality_of byte }
 {
@@ -53,7 +54,6 @@ pub fn read(flags: u8, limit: u8, quality: u8, last: u8) -> Word
     }
 }
 
-#[tactic(auto, using(refusal::proofs::Firsts::word_last))]
 pub fn encode_block(samples: &[f32], w: Word) -> Result<u64, Refusal>
     ensures { result ≡ encode_by_word samples.now w }
 {
@@ -63,7 +63,6 @@ pub fn encode_block(samples: &[f32], w: Word) -> Result<u64, Refusal>
     crate::encode_block(samples, w.options)
 }
 
-#[tactic(auto, using(refusal::proofs::Firsts::word_last))]
 pub fn resend(samples: &[f32], held: &[u8], w: Word) -> Result<Kept, Refusal>
     ensures { result ≡ resend_by_word samples.now held.now w }
 {
@@ -73,7 +72,6 @@ pub fn resend(samples: &[f32], held: &[u8], w: Word) -> Result<Kept, Refusal>
     crate::resend(samples, held, w.options)
 }
 
-#[tactic(auto, using(refusal::proofs::Firsts::word_last))]
 pub fn encode_tile(
     samples: &[f32],
     width: usize,

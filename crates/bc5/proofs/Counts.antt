@@ -7,7 +7,7 @@ use lib.ListN.{length}
 use lib.Ieee.{Float}
 use borrow.Author.Tests.{ltb-false}
 use Rattle.place.specs.Place.{bad_size, bc5_size, encoded_length}
-use Rattle.core.specs.declared.result.Result.TheVariants.{Ok}
+use Rattle.std.specs.declared.result.Result.TheVariants.{Ok}
 use Rattle.refusal.specs.Refusals.{Check, first_of, first_nan, length_check, room_check, size_checks}
 use Rattle.refusal.proofs.Firsts.{first_clear, both_passed, same_of}
 use Rattle.refusal.proofs.Sizes.{size_passed}

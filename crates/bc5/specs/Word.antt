@@ -5,7 +5,7 @@ use Rattle.std.specs.Prelude.{List, ℕ, Float}
 use Rattle.place.specs.Place.{bc5_size, encoded_length}
 use Rattle.refusal.specs.Refusals.{Answer, first_of, answered, and_word}
 use Rattle.bc4.specs.declared.word.Word.{Word}
-use Rattle.core.specs.declared.result.Result.TheVariants.{Ok, Err}
+use Rattle.std.specs.declared.result.Result.TheVariants.{Ok, Err}
 use Rattle.bc5.specs.Checks.{encode_checks, resend_checks, tile_checks}
 use Rattle.bc5.specs.Calls.{coded_of, kept_of}
 

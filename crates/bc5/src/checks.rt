@@ -21,6 +21,7 @@ fn no_tile_nans(first: &[f32], second: &[f32], size: Size) -> Result<(), Refusal
     refusal::no_tile_nan_in(Channel::Second, second, size)
 }
 
+#[tactic(auto, unfolding(refusal::specs::Refusals::first_of))]
 pub fn encode(first: &[f32], second: &[f32]) -> Result<(), Refusal>
     ensures { result ≡ first_of (encode_checks first.now second.now) }
 {
@@ -33,6 +34,7 @@ pub fn encode(first: &[f32], second: &[f32]) -> Result<(), Refusal>
     no_nans(first, second)
 }
 
+#[tactic(auto, unfolding(refusal::specs::Refusals::first_of))]
 pub fn decode(encoded: &[u8]) -> Result<(), Refusal>
     ensures { result ≡ first_of (decode_checks encoded.now) }
 {
@@ -42,6 +44,7 @@ pub fn decode(encoded: &[u8]) -> Result<(), Refusal>
     Ok(())
 }
 
+#[tactic(auto, unfolding(refusal::specs::Refusals::first_of))]
 pub fn error(first: &[f32], second: &[f32], encoded: &[u8]) -> Result<(), Refusal>
     ensures { result ≡ first_of (error_checks first.now second.now encoded.now) }
 {
@@ -57,6 +60,7 @@ pub fn error(first: &[f32], second: &[f32], encoded: &[u8]) -> Result<(), Refusa
     no_nans(first, second)
 }
 
+#[tactic(auto, unfolding(refusal::specs::Refusals::first_of))]
 pub fn resend(first: &[f32], second: &[f32], held: &[u8], o: Options) -> Result<(), Refusal>
     ensures { result ≡ first_of (resend_checks first.now second.now held.now o) }
 {
@@ -76,6 +80,7 @@ pub fn resend(first: &[f32], second: &[f32], held: &[u8], o: Options) -> Result<
 }
 
 // `room` is the length of the output.
+#[tactic(auto, using(refusal::proofs::Firsts::passed_first, refusal::proofs::Firsts::passes), unfolding(refusal::specs::Refusals::first_of))]
 pub fn tile(
     first: &[f32],
     second: &[f32],

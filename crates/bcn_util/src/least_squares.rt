@@ -51,21 +51,13 @@ pub fn or_mean(inverse: Option<WeightMatrix>) -> WeightMatrix
 fn dot_in_pairs(u: &[f32; 16], v: &[f32; 16]) -> f32
     ensures { result ≡ dot_in_pairs u.now v.now }
 {
-    let mut e = [0.0f32; 16];
-    for i in 0..16usize {
-        e[i] = u[i] * v[i];
-    }
-    block::sum_in_pairs(&e)
+    block::sum_in_pairs(&std::array::from_fn(|i| u[i] * v[i]))
 }
 
 fn complement(w: &[f32; 16]) -> [f32; 16]
     ensures { result ≡ complement_of w.now }
 {
-    let mut v = [0.0f32; 16];
-    for i in 0..16usize {
-        v[i] = 1.0 - w[i];
-    }
-    v
+    std::array::from_fn(|i| 1.0 - w[i])
 }
 
 fn matrix(w: &[f32; 16]) -> WeightMatrix
@@ -82,11 +74,7 @@ fn matrix(w: &[f32; 16]) -> WeightMatrix
 fn line(e: f32, d: f32, w: &[f32; 16]) -> [f32; 16]
     ensures { result ≡ line_of e d w.now }
 {
-    let mut g = [0.0f32; 16];
-    for i in 0..16usize {
-        g[i] = e + d * w[i];
-    }
-    g
+    std::array::from_fn(|i| e + d * w[i])
 }
 
 // The end of weight 1 first.

@@ -1,7 +1,7 @@
 // What both compressions end with: palette, indexes, bytes.
 #![tactic(auto)]
 
-ghost use Rattle.std.specs.Prelude.{◌≡◌, cond};
+ghost use Rattle.std.specs.Prelude.{◌≡◌};
 ghost use Rattle.coding.specs.Coding.{smaller as smaller_of, laid_out, ended as ended_of};
 
 use end_points::EndPoints;
@@ -14,16 +14,10 @@ pub struct Coded {
     pub error: f32,
 }
 
-fn pick(t: bool, a: Coded, b: Coded) -> Coded
-    ensures { result ≡ cond t a b }
-{
-    if t { a } else { b }
-}
-
 pub fn smaller(best: Coded, next: Coded) -> Coded
     ensures { result ≡ smaller_of best next }
 {
-    pick(next.error < best.error, next, best)
+    floats::pick(next.error < best.error, next, best)
 }
 
 fn laid_out(e: EndPoints, x: Indexed) -> Coded

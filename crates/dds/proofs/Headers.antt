@@ -7,7 +7,7 @@ use native.Mathlib.Omega.{arith}
 use lib.Dec.{ltb}
 use lib.ListN.{length}
 use borrow.Author.Tests.{ltb-false}
-use Rattle.core.specs.declared.result.Result.TheVariants.{Ok}
+use Rattle.std.specs.declared.result.Result.TheVariants.{Ok}
 use Rattle.refusal.specs.Refusals.{first_of}
 use Rattle.refusal.proofs.Firsts.{first_clear}
 use Rattle.dds.specs.Layout.{header_length, extended_length, extended, body_at, Whole}

@@ -11,7 +11,7 @@ use borrow.Author.Tests.{le-ltb, eq-eqb}
 use Rattle.fields.specs.Fields.{field_at}
 use Rattle.place.specs.Place.{bad_size, bc4_size, encoded_length}
 use Rattle.place.proofs.Places.{size_good}
-use Rattle.core.specs.declared.result.Result.TheVariants.{Ok}
+use Rattle.std.specs.declared.result.Result.TheVariants.{Ok}
 use Rattle.refusal.specs.Refusals.{first_of}
 use Rattle.refusal.proofs.Firsts.{first_clear, clear_passed, passed_before}
 use Rattle.refusal.proofs.Sizes.{good_passes}

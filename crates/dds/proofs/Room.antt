@@ -5,7 +5,7 @@ use mathlib.Core.List.{[], ◌∷◌}
 use Prim.Native.Nat.{ℕ, ◌+◌, ◌≤◌}
 use borrow.Author.Tests.{ltb-false}
 use Rattle.place.specs.Place.{bad_size, bc4_size, encoded_length}
-use Rattle.core.specs.declared.result.Result.TheVariants.{Ok}
+use Rattle.std.specs.declared.result.Result.TheVariants.{Ok}
 use Rattle.refusal.specs.Refusals.{first_of, room_check, bytes_checks}
 use Rattle.refusal.proofs.Firsts.{first_clear, both_passed}
 use Rattle.refusal.proofs.Tiles.{bytes_passed}

@@ -56,9 +56,6 @@ pub fn put(size: Size, snorm: bool, out: &mut [u8])
     requires { header_length ≤ length out.old }
     ensures { out.new ≡ header_of size.width size.height snorm ++ drop header_length out.old }
 {
-    let all = fields_of(size, snorm);
-    for k in 0..32usize {
-        let field = fields::bytes_u32(all[k]);
-        out[4 * k..4 * k + 4].copy_from_slice(&field);
-    }
+    let fields = fields_of(size, snorm).map(fields::bytes_u32);
+    out[..LENGTH].copy_from_slice(fields.as_flattened());
 }

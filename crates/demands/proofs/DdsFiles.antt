@@ -14,7 +14,7 @@ use Rattle.floats.proofs.Tests.{clash}
 use Rattle.floats.proofs.Table.{all, at}
 use Rattle.place.specs.Place.{bad_size, bc4_size, encoded_length}
 use Rattle.place.proofs.Places.{size_small}
-use Rattle.core.specs.declared.result.Result.TheVariants.{Ok, Err}
+use Rattle.std.specs.declared.result.Result.TheVariants.{Ok, Err}
 use Rattle.refusal.specs.Refusals.{Checked, first_of, answered}
 use Rattle.refusal.proofs.Firsts.{first_clear, both_passed, same_of}
 use Rattle.dds.specs.declared.Picture.{Picture}

@@ -12,7 +12,7 @@ use Rattle.refusal.specs.declared.Refusal.{Refusal}
 use Rattle.refusal.specs.declared.Refusal.TheVariants.{WordMalformed, InChannel}
 use Rattle.refusal.specs.declared.Channel.TheVariants.{First, Second}
 use Rattle.refusal.specs.declared.Fault.TheVariants.{Nan, TileNan}
-use Rattle.core.specs.declared.result.Result.TheVariants.{Ok, Err}
+use Rattle.std.specs.declared.result.Result.TheVariants.{Ok, Err}
 use Rattle.refusal.specs.Refusals.{Checked, refusal_in, Check, when, first_of, answered, count_check, room_check, tile_nan_check, size_checks, encode_checks, resend_checks, tile_checks, view_checks}
 use Rattle.refusal.proofs.Firsts.{refusal_of, first_clear, both_passed, same_of}
 use Rattle.refusal.proofs.Sizes.{size_passed}

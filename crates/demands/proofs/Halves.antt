@@ -9,7 +9,7 @@ use lib.Ieee.{Float}
 use borrow.Author.Tests.{eq-eqb}
 use Rattle.options.specs.declared.Options.{Options}
 use Rattle.place.specs.Place.{bc4_size, bc5_size}
-use Rattle.core.specs.declared.result.Result.TheVariants.{Ok}
+use Rattle.std.specs.declared.result.Result.TheVariants.{Ok}
 use Rattle.refusal.specs.Refusals.{first_of, count_check, nan_check, decode_checks as one_decode_checks, encode_checks as one_encode_checks, error_checks as one_error_checks, resend_checks as one_resend_checks}
 use Rattle.refusal.proofs.Firsts.{first_clear, clear_passed, same_of}
 use Rattle.bc5.specs.Checks.{encode_checks, decode_checks, error_checks, resend_checks}

@@ -9,7 +9,7 @@ use lib.Dec.{T, leb, lit≤}
 use Rattle.floats.proofs.Tests.{clash}
 use Rattle.floats.proofs.Table.{both, both_left, both_right}
 use Rattle.refusal.specs.declared.Refusal.{Refusal}
-use Rattle.core.specs.declared.result.Result.TheVariants.{Ok, Err}
+use Rattle.std.specs.declared.result.Result.TheVariants.{Ok, Err}
 use Rattle.refusal.specs.Refusals.{number_of, Check, first_of}
 use Rattle.refusal.proofs.Firsts.{apart}
 use Rattle.demands.specs.Exactly.{Condition, Iff, AnyOf, Exactly, InNumberOrder}

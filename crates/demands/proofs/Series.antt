@@ -13,7 +13,7 @@ use Rattle.index_list.proofs.ReadBack.{bytes_all, bytes_from}
 use Rattle.options.specs.declared.Options.{Options}
 use Rattle.decode.specs.BlockError.{block_error}
 use Rattle.decode.proofs.Laws.{error_of_bytes}
-use Rattle.core.specs.declared.result.Result.TheVariants.{Ok}
+use Rattle.std.specs.declared.result.Result.TheVariants.{Ok}
 use Rattle.refusal.specs.Refusals.{first_of, resend_checks}
 use Rattle.refusal.proofs.Firsts.{answered_cases, first_clear, same_of}
 use Rattle.bc4.specs.declared.Kept.{Kept}

@@ -8,7 +8,7 @@ use lib.Dec.{eqb, ltb}
 use lib.ListN.{length, length-take, length-drop}
 use borrow.Author.Tests.{eq-eqb, eqb-true, ne_eqb, eqb-false, not-true}
 use Rattle.place.specs.Place.{bc4_size, encoded_length}
-use Rattle.core.specs.declared.result.Result.TheVariants.{Ok, Err}
+use Rattle.std.specs.declared.result.Result.TheVariants.{Ok, Err}
 use Rattle.refusal.specs.Refusals.{refusal_in, first_of}
 use Rattle.refusal.proofs.Firsts.{refusal_of}
 use Rattle.station.specs.declared.Received.TheVariants.{Taken, Repeated, Replaced, Old}

@@ -15,7 +15,7 @@ use Rattle.encode.specs.Encoder.{compressed}
 use Rattle.decode.specs.BlockError.{block_error}
 use Rattle.place.specs.Place.{bc5_size, encoded_length, block_of}
 use Rattle.tile.specs.Tile.{pair_bytes}
-use Rattle.core.specs.declared.result.Result.TheVariants.{Ok, Err}
+use Rattle.std.specs.declared.result.Result.TheVariants.{Ok, Err}
 use Rattle.refusal.specs.Refusals.{Answer, refusal_in, first_of}
 use Rattle.refusal.proofs.Firsts.{refusal_of}
 use Rattle.bc4.specs.declared.Kept.{Kept as OneKept}

@@ -1,6 +1,6 @@
 -- Document 02, 1/12: what is promised of DDS files besides their refusals, which are in `Demand1`: what is written, what it reads back as, and what a read looks at.
 use Rattle.std.specs.Prelude.{◌≡◌, Bool, true, cond, ◌⊎◌, List, [], ◌∷◌, ℕ, ◌+◌, ◌*◌, ◌/◌, ◌<◌, ◌≤◌, length, take, drop, get_or}
-use Rattle.core.specs.declared.result.Result.TheVariants.{Ok}
+use Rattle.std.specs.declared.result.Result.TheVariants.{Ok}
 use Rattle.dds.specs.declared.Picture.{Picture}
 use Rattle.dds.specs.Layout.{dds_magic, bc4u, bc4s, dx10}
 use Rattle.dds.specs.Calls.{write_answer, file_after, read_answer, body_of}

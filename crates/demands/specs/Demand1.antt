@@ -6,7 +6,7 @@ use Rattle.options.specs.declared.Options.{Options}
 use Rattle.refusal.specs.declared.Refusal.{Refusal}
 use Rattle.refusal.specs.declared.Refusal.TheVariants.{SampleCount, EncodedLength, OutputLength, DitheredResend, NoSuchBlock, WordMalformed, DdsBody, EditionReused, EditionOpposite}
 use Rattle.refusal.specs.declared.Field.TheVariants.{Header, Extension, Magic, HeaderSize, FourCharacters, ExtensionFormat, MipCount, Depth, CubeFaces, ArraySize}
-use Rattle.core.specs.declared.result.Result.TheVariants.{Err}
+use Rattle.std.specs.declared.result.Result.TheVariants.{Err}
 use Rattle.refusal.specs.Refusals.{refusal_in, first_of, decode_checks, view_checks}
 use Rattle.bc4.specs.Word.{word_of, encode_by_word, resend_by_word, tile_by_word}
 use Rattle.bc4.specs.Calls.{encode_answer, samples_after, error_answer, resend_answer, tile_answer, out_after, view_of}

@@ -9,7 +9,7 @@ use Rattle.encode.specs.Encoder.{compressed}
 use Rattle.decode.specs.Meaning.{block_index}
 use Rattle.decode.specs.Exact.{exact_num, exact_den, Close}
 use Rattle.place.specs.Place.{along, bc4_size, block_at, block_of}
-use Rattle.core.specs.declared.result.Result.TheVariants.{Ok}
+use Rattle.std.specs.declared.result.Result.TheVariants.{Ok}
 use Rattle.bc4.specs.Calls.{encode_answer, samples_after, tile_answer, out_after}
 
 pub record Demand2 : Type 0 where

@@ -22,7 +22,7 @@ use Rattle.search.specs.Covered.{Covered, pair_error, OfPair}
 use Rattle.decode.specs.BlockError.{block_error}
 use Rattle.bc4.specs.declared.Kept.{Kept}
 use Rattle.refusal.specs.Refusals.{Answer}
-use Rattle.core.specs.declared.result.Result.TheVariants.{Ok, Err}
+use Rattle.std.specs.declared.result.Result.TheVariants.{Ok, Err}
 use Rattle.bc4.specs.Calls.{resend_answer}
 use Rattle.demands.specs.Exactly.{Iff}
 

@@ -1,7 +1,7 @@
 -- What 'exactly when' says of a call: conditions in the words of a document, as a list in the order in which the call looks at them.
 use Rattle.std.specs.Prelude.{◌≡◌, ◌⊎◌, List, [], ◌∷◌, ℕ, ◌≤◌}
 use Rattle.refusal.specs.declared.Refusal.{Refusal}
-use Rattle.core.specs.declared.result.Result.TheVariants.{Ok, Err}
+use Rattle.std.specs.declared.result.Result.TheVariants.{Ok, Err}
 use Rattle.refusal.specs.Refusals.{Checked, number_of}
 
 -- ---- a condition: which refusals it gives

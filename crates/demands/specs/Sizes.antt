@@ -3,7 +3,7 @@ use Rattle.std.specs.Prelude.{◌≡◌, ◌⊎◌, ℕ}
 use Rattle.refusal.specs.declared.Refusal.{Refusal}
 use Rattle.refusal.specs.declared.Refusal.TheVariants.{SideIsZero, SideTooLarge, SideNotMultipleOf4}
 use Rattle.refusal.specs.declared.Side.TheVariants.{Width, Height}
-use Rattle.core.specs.declared.result.Result.TheVariants.{Ok, Err}
+use Rattle.std.specs.declared.result.Result.TheVariants.{Ok, Err}
 use Rattle.refusal.specs.Refusals.{first_of, size_checks}
 use Rattle.demands.specs.Exactly.{Iff, AnyOf, InNumberOrder}
 use Rattle.demands.specs.Conditions.{BadSide, SizeRefuses}

@@ -1,6 +1,6 @@
 -- Document 02, 5/12: what is promised of a station besides its refusals, which are in `Demand1`. `received` is what the call leaves of one message, `arrived` of
 -- messages one after the other, `history` with clears between them; each is over the answer that the contract of `station` cites.
-use Rattle.core.specs.declared.result.Result.TheVariants.{Ok, Err}
+use Rattle.std.specs.declared.result.Result.TheVariants.{Ok, Err}
 use Rattle.std.specs.Prelude.{◌≡◌, List, ◌∷◌, ◌++◌, ℕ, ◌+◌, ◌-◌, ◌/◌, ◌%◌, ◌<◌, ◌≤◌, length}
 use Rattle.refusal.specs.declared.Refusal.TheVariants.{EditionReused, EditionOpposite}
 use Rattle.refusal.specs.Refusals.{Answer, refusal_in}

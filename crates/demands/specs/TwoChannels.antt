@@ -18,7 +18,7 @@ use Rattle.decode.specs.Meaning.{block_index}
 use Rattle.decode.specs.Exact.{exact_num, exact_den, Close}
 use Rattle.decode.specs.BlockError.{block_error}
 use Rattle.place.specs.Place.{along, bc5_size, block_at, block_of}
-use Rattle.core.specs.declared.result.Result.TheVariants.{Ok, Err}
+use Rattle.std.specs.declared.result.Result.TheVariants.{Ok, Err}
 use Rattle.refusal.specs.Refusals.{Answer, first_of, decode_checks as one_decode_checks}
 use Rattle.bc4.specs.declared.Kept.{Kept as OneKept}
 use Rattle.bc4.specs.Calls.{samples_after, encode_answer as one_encode_answer, error_answer as one_error_answer, resend_answer as one_resend_answer}

@@ -4,7 +4,7 @@ use Rattle.bc4.specs.declared.Kept.{Kept}
 use Rattle.std.specs.Prelude.{cond, List, ℕ, ◌/◌, ◌%◌, ◌^◌, Float}
 use Rattle.index_list.specs.Layout.{bytes_of}
 use Rattle.place.specs.Place.{bc4_size, block_at}
-use Rattle.core.specs.declared.result.Result.TheVariants.{Ok, Err}
+use Rattle.std.specs.declared.result.Result.TheVariants.{Ok, Err}
 use Rattle.bc4.specs.declared.word.Word.{Word}
 use Rattle.refusal.specs.Refusals.{Answer, Checked, number_of, detail_of, answered}
 use Rattle.bc4.specs.Word.{word_of}

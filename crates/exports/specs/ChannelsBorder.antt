@@ -5,7 +5,7 @@ use Rattle.bc5.specs.declared.Kept.{Kept}
 use Rattle.std.specs.Prelude.{cond, List, [], ◌∷◌, ◌++◌, ℕ, Float}
 use Rattle.index_list.specs.Layout.{bytes_of}
 use Rattle.place.specs.Place.{bc5_size, block_at}
-use Rattle.core.specs.declared.result.Result.TheVariants.{Ok, Err}
+use Rattle.std.specs.declared.result.Result.TheVariants.{Ok, Err}
 use Rattle.refusal.specs.Refusals.{Answer, Checked, answered}
 use Rattle.bc5.specs.Calls.{halves_bytes}
 

@@ -2,7 +2,7 @@
 use Rattle.dds.specs.declared.Picture.{Picture}
 use Rattle.std.specs.Prelude.{cond, ℕ}
 use Rattle.refusal.specs.Refusals.{Answer}
-use Rattle.core.specs.declared.result.Result.TheVariants.{Ok, Err}
+use Rattle.std.specs.declared.result.Result.TheVariants.{Ok, Err}
 
 abbrev pub file_written_after : Answer ℕ → ℕ → ℕ
 file_written_after (Ok n) before = n

@@ -1,5 +1,5 @@
 -- How the answers of `station` cross to C: what became of a message, as a number. A refused call leaves it as it was.
-use Rattle.core.specs.declared.result.Result.TheVariants.{Ok, Err}
+use Rattle.std.specs.declared.result.Result.TheVariants.{Ok, Err}
 use Rattle.std.specs.Prelude.{ℕ}
 use Rattle.refusal.specs.Refusals.{Answer}
 use Rattle.station.specs.declared.Received.{Received}

@@ -8,7 +8,7 @@ ghost use Rattle.bc5.specs.Word.{encode_by_word, resend_by_word, tile_by_word};
 ghost use Rattle.exports.specs.Border.{word_of_number, number_in, detail_after, written_after};
 ghost use Rattle.exports.specs.ChannelsBorder.{pair_after, pair_errors_after, pair_held_after, pair_fresh_after, pair_offset_after};
 
-use crate::{bit, refused, word_in};
+use crate::{refused, word_in};
 use bc5::Halves;
 
 #[unsafe(no_mangle)]
@@ -94,7 +94,7 @@ pub extern "C" fn bc5_resend(
                 first: kept.first.block,
                 second: kept.second.block,
             });
-            *fresh = [bit(kept.first.fresh), bit(kept.second.fresh)];
+            *fresh = [u8::from(kept.first.fresh), u8::from(kept.second.fresh)];
             0
         }
         Err(q) => refused(q, detail),

@@ -27,12 +27,8 @@ pub extern "C" fn bc4_version() -> u32
 fn word_in(options: u32) -> Word
     ensures { result ≡ word_of_number options }
 {
-    bc4::word::read(
-        (options % 256) as u8,
-        (options / 256 % 256) as u8,
-        (options / 65536 % 256) as u8,
-        (options / 16777216) as u8,
-    )
+    let [flags, limit, quality, last] = options.to_le_bytes();
+    bc4::word::read(flags, limit, quality, last)
 }
 
 // A refusal's number, and into `detail` what it brings with it: what, index, row and column.
@@ -120,17 +116,11 @@ pub extern "C" fn bc4_resend(
     match bc4::word::resend(samples, held, word_in(options)) {
         Ok(h) => {
             *block = bc4::bytes(h.block);
-            *fresh = bit(h.fresh);
+            *fresh = u8::from(h.fresh);
             0
         }
         Err(q) => refused(q, detail),
     }
-}
-
-fn bit(b: bool) -> u8
-    ensures { result ≡ cond b 1 0 }
-{
-    if b { 1 } else { 0 }
 }
 
 #[unsafe(no_mangle)]
@@ -226,7 +216,7 @@ pub extern "C" fn bc4_read_dds(
         Ok(picture) => {
             *width = picture.width;
             *height = picture.height;
-            *snorm = bit(picture.snorm);
+            *snorm = u8::from(picture.snorm);
             *offset = picture.start;
             0
         }

@@ -10,8 +10,8 @@ ghost use Rattle.floats.specs.Helpers.{abs_of, min_of, max_of, lane_min, lane_ma
 #[derive(Clone, Copy)]
 pub struct Pair(pub f32, pub f32);
 
-// a where t holds, and b elsewhere: the one branch on floats, which compiles to a select.
-pub fn pick(t: bool, a: f32, b: f32) -> f32
+// a where t holds, and b elsewhere: the one branch between two values, which compiles to a select.
+pub fn pick<T: Copy>(t: bool, a: T, b: T) -> T
     ensures { result ≡ (if t then a else b) }
 {
     if t { a } else { b }

@@ -217,8 +217,8 @@ pub extern "C" fn inner_set(indexes: &[u8; 16]) -> u64
     ensures { result ≡ filled_to (λ k. get_or indexes.now k 0 % 8) 16 }
 {
     let mut list = IndexList::new_empty();
-    for i in 0..16usize {
-        list = list.set(i, indexes[i] % 8);
+    for (i, index) in indexes.iter().enumerate() {
+        list = list.set(i, index % 8);
     }
     list.data
 }
@@ -268,11 +268,7 @@ pub extern "C" fn inner_places(b: &[f32; 16], out: &mut [f32; 16])
     ensures { out.new ≡ per_pixel (placed b.now) }
 {
     let s = compress::network::sorted(b);
-    let mut places = [1.0f32; 16];
-    for i in 0..16usize {
-        places[i] = compress::sorted::placed(b, &s, i as u32);
-    }
-    *out = places;
+    *out = std::array::from_fn(|i| compress::sorted::placed(b, &s, i as u32));
 }
 
 // ---- palette

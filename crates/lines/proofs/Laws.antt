@@ -9,7 +9,7 @@ use lib.Seq.{length-take-le, take-add, take_all, take_at, drop_at, drop-drop}
 use borrow.Rule.Slice.PartMut.{put_mid}
 use Rattle.std.specs.Simd.{first_chunks}
 use Rattle.refusal.specs.Refusals.{Answer}
-use Rattle.core.specs.declared.result.Result.TheVariants.{Ok, Err}
+use Rattle.std.specs.declared.result.Result.TheVariants.{Ok, Err}
 use Rattle.lines.specs.Output.{hex_line, refused_line}
 use Rattle.lines.specs.Answers.{answer_of, line_of, record_at, lines_to, AtStart}
 

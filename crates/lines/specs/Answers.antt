@@ -1,6 +1,6 @@
 -- What the program answers. Document 01, "The program": the block call's answer, one line per record; a malformed word is refusal 8, after 7.
 use Rattle.std.specs.Prelude.{◌≡◌, List, [], ◌++◌, cond, ℕ, zero, suc, ◌*◌, ◌/◌, ◌%◌, ◌≤◌, eqb, length, take, drop}
-use Rattle.core.specs.declared.result.Result.TheVariants.{Ok, Err}
+use Rattle.std.specs.declared.result.Result.TheVariants.{Ok, Err}
 use Rattle.refusal.specs.Refusals.{Answer, number_of}
 use Rattle.bc4.specs.Word.{encode_by_word}
 use Rattle.lines.specs.Input.{record_word, samples_of}

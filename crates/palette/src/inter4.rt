@@ -1,5 +1,5 @@
 // Inter4Palette.
-ghost use Rattle.std.specs.Prelude.{◌≡◌, cond, ◌<◌};
+ghost use Rattle.std.specs.Prelude.{◌≡◌, ◌<◌};
 ghost use Rattle.palette.specs.declared.Kind.TheVariants.{Four};
 ghost use Rattle.palette.specs.Palettes.{entry, colors as colors_of};
 ghost use Rattle.palette.specs.Closest.{default_of, nearer_of, nearest_to, closest4};
@@ -18,19 +18,13 @@ pub struct Nearest {
     pub error: f32,
 }
 
-fn pick_index(t: bool, a: u32, b: u32) -> u32
-    ensures { result ≡ cond t a b }
-{
-    if t { a } else { b }
-}
-
 impl Nearest {
     // This handles the case where pixel is 0 or 1.
     fn default(pixel: f32) -> Self
         ensures { result ≡ default_of pixel }
     {
         Self {
-            index: pick_index(pixel >= 0.5, 7, 6),
+            index: floats::pick(pixel >= 0.5, 7, 6),
             error: floats::pick(pixel >= 0.5, 1.0 - pixel, pixel),
         }
     }
@@ -41,7 +35,7 @@ impl Nearest {
         let error = floats::abs(pixel - color);
         let nearer = error < self.error;
         Self {
-            index: pick_index(nearer, k, self.index),
+            index: floats::pick(nearer, k, self.index),
             error: floats::pick(nearer, error, self.error),
         }
     }

@@ -49,9 +49,5 @@ pub fn gather(samples: &[f32], width: usize, column: usize, row: usize) -> [f32;
     requires { (column < along width) × (4 * (row + 1) * width ≤ length samples.now) }
     ensures { result ≡ block_of samples.now width column row }
 {
-    let mut b = [0.0f32; 16];
-    for i in 0..16usize {
-        b[i] = samples[(4 * row + i / 4) * width + (4 * column + i % 4)];
-    }
-    b
+    std::array::from_fn(|i| { samples[(4 * row + i / 4) * width + (4 * column + i % 4)] })
 }

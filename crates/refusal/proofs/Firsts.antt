@@ -8,7 +8,7 @@ use lib.Dec.{T, eqb, eqb→eq}
 use borrow.Author.Tests.{not-false}
 use Rattle.refusal.specs.declared.Refusal.{Refusal}
 use Rattle.refusal.specs.declared.Refusal.TheVariants.{WordMalformed}
-use Rattle.core.specs.declared.result.Result.TheVariants.{Ok, Err}
+use Rattle.std.specs.declared.result.Result.TheVariants.{Ok, Err}
 use Rattle.refusal.specs.Refusals.{Answer, Checked, refusal_in, Check, when, first_of, answered, and_word, or_malformed}
 
 abbrev refuses : Checked → Type 0
@@ -31,6 +31,11 @@ handed_on (Err p) e = ap Err e
 
 pub passes : (done : ⊤) {c : Checked} → Ok done ≡ c → Ok tt ≡ c
 passes tt e = e
+
+-- Checks alone answer no more than a refusal.
+pub no_value : (c : Checked) → refusal_in c ≡ c
+no_value (Ok tt) = refl
+no_value (Err q) = refl
 
 -- An answer refuses as its checks do.
 pub refusal_of : {A : Type 0} (value : A) (c : Checked) → refusal_in (answered Err (Ok value) c) ≡ c

@@ -4,7 +4,7 @@ use mathlib.Core.Bool.{false}
 use Prim.Native.Nat.{ℕ}
 use Rattle.place.specs.Place.{bad_side, bad_size}
 use Rattle.place.proofs.Places.{neither, good_sides}
-use Rattle.core.specs.declared.result.Result.TheVariants.{Ok}
+use Rattle.std.specs.declared.result.Result.TheVariants.{Ok}
 use Rattle.refusal.specs.Refusals.{first_of, size_checks}
 use Rattle.refusal.proofs.Firsts.{first_clear, clear_passed}
 

@@ -7,7 +7,7 @@ use lib.ListN.{length}
 use lib.Ieee.{Float}
 use borrow.Author.Tests.{ltb-false}
 use Rattle.place.specs.Place.{bad_size, bc4_size, encoded_length}
-use Rattle.core.specs.declared.result.Result.TheVariants.{Ok}
+use Rattle.std.specs.declared.result.Result.TheVariants.{Ok}
 use Rattle.refusal.specs.Refusals.{first_of, first_nan, count_check, length_check, room_check, tile_nan_check, size_checks, bytes_checks_of, tile_checks}
 use Rattle.refusal.proofs.Firsts.{first_clear, both_passed, same_of}
 use Rattle.refusal.proofs.Sizes.{size_passed}

@@ -6,7 +6,7 @@ use native.Mathlib.Omega.{arith}
 use lib.ListN.{length}
 use Rattle.place.specs.Place.{longest_side, along, bc5_size, block_at}
 use Rattle.place.proofs.Places.{bytes_small, row_room, block_there, block_within}
-use Rattle.core.specs.declared.result.Result.TheVariants.{Ok}
+use Rattle.std.specs.declared.result.Result.TheVariants.{Ok}
 use Rattle.refusal.specs.Refusals.{first_of, place_check, bytes_checks_of, view_checks_of}
 use Rattle.refusal.proofs.Firsts.{first_clear, both_passed}
 use Rattle.refusal.proofs.Tiles.{bytes_passed}

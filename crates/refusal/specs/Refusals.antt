@@ -10,8 +10,8 @@ use Rattle.refusal.specs.declared.Side.TheVariants.{Width, Height}
 use Rattle.refusal.specs.declared.Spot.{Spot}
 use Rattle.refusal.specs.declared.Channel.{Channel}
 use Rattle.refusal.specs.declared.Fault.TheVariants.{Count, Nan, TileNan}
-use Rattle.core.specs.declared.result.Result.{Result}
-use Rattle.core.specs.declared.result.Result.TheVariants.{Ok, Err}
+use Rattle.std.specs.declared.result.Result.{Result}
+use Rattle.std.specs.declared.result.Result.TheVariants.{Ok, Err}
 use Rattle.refusal.specs.Names.{number_for, what_side, what_of, fault_number, fault_detail}
 
 -- the document's number of a refusal

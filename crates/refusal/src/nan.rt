@@ -1,6 +1,6 @@
 // The first sample that is NaN.
 ghost use Rattle.std.specs.Prelude.{◌≡◌, [], ◌∷◌, ltb, length, if◌then◌else◌};
-ghost use Rattle.core.specs.declared.option.Option.TheVariants.{Some, None};
+ghost use Rattle.std.specs.declared.option.Option.TheVariants.{Some, None};
 ghost use Rattle.refusal.specs.Refusals.{first_of, first_nan, nan_check, nan_in, spot_of, tile_nan_check, tile_nan_in};
 
 use crate::{Channel, Fault, Refusal, Spot};

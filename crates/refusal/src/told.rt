@@ -1,4 +1,4 @@
-// What a refusal tells: its number, and what it brings with it.
+// What a refusal tells: its number, and what it brings with it. C is told by numbers (include/bc4.h), so that they are written out here and nowhere else.
 ghost use Rattle.std.specs.Prelude.{◌≡◌};
 ghost use Rattle.refusal.specs.Names.{number_for, what_side, what_of, fault_number, what_channel, fault_detail};
 ghost use Rattle.refusal.specs.Refusals.{number_of, detail_of};

@@ -1,7 +1,7 @@
 -- An entry of the list: a record of 68 bytes, and the eight bytes that the Rust text answered.
 use Rattle.std.specs.Prelude.{List, Bool, true, not, cond, ℕ, zero, suc, ◌+◌, ◌*◌, ◌/◌, ◌^◌, eqb, length, take, drop}
 use Rattle.refusal.specs.Refusals.{Answer}
-use Rattle.core.specs.declared.result.Result.TheVariants.{Ok, Err}
+use Rattle.std.specs.declared.result.Result.TheVariants.{Ok, Err}
 use Rattle.fields.specs.Fields.{field_at}
 use Rattle.replay.specs.declared.Tally.{Tally}
 use Rattle.lines.specs.Answers.{answer_of}

@@ -8,7 +8,7 @@ use lib.Dec.{eqb}
 use lib.ListN.{length, replicate}
 use borrow.Author.Tests.{eqb-false}
 use Rattle.place.specs.Place.{along}
-use Rattle.core.specs.declared.result.Result.TheVariants.{Ok, Err}
+use Rattle.std.specs.declared.result.Result.TheVariants.{Ok, Err}
 use Rattle.refusal.specs.Refusals.{Answer, Checked, first_of, answered}
 use Rattle.refusal.proofs.Firsts.{first_append}
 use Rattle.station.specs.declared.Received.{Received}

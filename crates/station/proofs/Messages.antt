@@ -11,7 +11,7 @@ use lib.Seq.{get_or-set_same, get_or-set_other}
 use borrow.Author.Tests.{eq-eqb, lt-leb}
 use Rattle.place.specs.Place.{along, bc4_size, encoded_length, block_at}
 use Rattle.place.proofs.Places.{block_apart}
-use Rattle.core.specs.declared.result.Result.TheVariants.{Ok, Err}
+use Rattle.std.specs.declared.result.Result.TheVariants.{Ok, Err}
 use Rattle.refusal.specs.Refusals.{Answer, Checked, first_of, answered, length_check, place_check, size_checks, bytes_checks}
 use Rattle.refusal.proofs.Firsts.{both_passed, passed_before, clear_passed}
 use Rattle.refusal.proofs.Sizes.{good_passes}

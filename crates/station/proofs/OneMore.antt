@@ -1,5 +1,5 @@
 -- One message more, of an orderly list: if each place holds the newest of those before it, it is not refused, and each holds the newest of those and it.
-use Rattle.core.specs.declared.result.Result.TheVariants.{Ok}
+use Rattle.std.specs.declared.result.Result.TheVariants.{Ok}
 use mathlib.Core.Path.{◌≡◌, refl, sym, ap, ◌∙◌}
 use mathlib.Core.Bool.{Bool, true, false}
 use mathlib.Core.List.{List}

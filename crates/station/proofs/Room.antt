@@ -6,7 +6,7 @@ use Prim.Native.Nat.{ℕ, ◌+◌, ◌*◌, ◌<◌, ◌≤◌}
 use native.Mathlib.Omega.{arith}
 use Rattle.place.specs.Place.{longest_side, bad_size, along, bc4_size, encoded_length, block_at}
 use Rattle.place.proofs.Places.{bytes_small, row_room, block_there, block_within}
-use Rattle.core.specs.declared.result.Result.TheVariants.{Ok}
+use Rattle.std.specs.declared.result.Result.TheVariants.{Ok}
 use Rattle.refusal.specs.Refusals.{first_of, length_check, place_check, bytes_checks}
 use Rattle.refusal.proofs.Firsts.{first_clear, both_passed, same_of}
 use Rattle.refusal.proofs.Tiles.{bytes_passed}

@@ -2,7 +2,7 @@
 use Rattle.std.specs.Prelude.{Bool, true, false, not, cond, ◌&&◌, List, [], ◌∷◌, ◌++◌, ℕ, ◌+◌, ltb, eqb, length, take, drop, set, replicate}
 use Rattle.place.specs.Place.{bc4_size, encoded_length, block_at}
 use Rattle.refusal.specs.declared.Refusal.TheVariants.{EditionReused, EditionOpposite}
-use Rattle.core.specs.declared.result.Result.TheVariants.{Ok, Err}
+use Rattle.std.specs.declared.result.Result.TheVariants.{Ok, Err}
 use Rattle.refusal.specs.Refusals.{Answer, Check, when, first_of, answered, length_check, place_check, bytes_checks}
 use Rattle.station.specs.declared.Received.{Received}
 use Rattle.station.specs.declared.Received.TheVariants.{Taken, Repeated, Replaced, Old}

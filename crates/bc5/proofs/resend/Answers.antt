@@ -6,23 +6,24 @@ use Rattle.place.specs.Place.{bc5_size}
 use Rattle.place.proofs.Samples.{block_of_whole}
 use Rattle.refusal.specs.Refusals.{length_check, dither_check}
 use Rattle.bc5.specs.Checks.{nan_checks}
+use Rattle.refusal.proofs.Firsts.{passes}
 use Rattle.bc5.proofs.Counts.{BothSixteen, both_sixteen, bytes_sixteen}
 use Rattle.std.proofs.Common.{rules}
 use Rattle.bc5.proofs.resend.Goals as goal
 
 pub gather-a-requires : goal.gather-a-requires
-gather-a-requires c = let both : BothSixteen c.args.first.now c.args.second.now = let a = c.args in both_sixteen a.first.now a.second.now (length_check (length a.held.now) bc5_size ∷ dither_check a.o ∷ nan_checks a.first.now a.second.now) (sym c.resend-checked.ensures ∙ c.in-Passed.is) in (search rules, omega arith)
+gather-a-requires c = let both : BothSixteen c.args.first.now c.args.second.now = let a = c.args in both_sixteen a.first.now a.second.now (length_check (length a.held.now) bc5_size ∷ dither_check a.o ∷ nan_checks a.first.now a.second.now) (sym (passes _ c.in_ok-resend.ensures)) in (search rules, omega arith)
 
 pub gather-b-requires : goal.gather-b-requires
-gather-b-requires c = let both : BothSixteen c.args.first.now c.args.second.now = let a = c.args in both_sixteen a.first.now a.second.now (length_check (length a.held.now) bc5_size ∷ dither_check a.o ∷ nan_checks a.first.now a.second.now) (sym c.resend-checked.ensures ∙ c.in-Passed.is) in (search rules, omega arith)
+gather-b-requires c = let both : BothSixteen c.args.first.now c.args.second.now = let a = c.args in both_sixteen a.first.now a.second.now (length_check (length a.held.now) bc5_size ∷ dither_check a.o ∷ nan_checks a.first.now a.second.now) (sym (passes _ c.in_ok-resend.ensures)) in (search rules, omega arith)
 
 pub slice_bounds-from_bytes-end : goal.slice_bounds-from_bytes-end
-slice_bounds-from_bytes-end c = let l : length c.args.held.now ≡ bc5_size = let a = c.args in bytes_sixteen a.first.now a.second.now a.held.now (dither_check a.o ∷ nan_checks a.first.now a.second.now) (sym c.resend-checked.ensures ∙ c.in-Passed.is) in search rules
+slice_bounds-from_bytes-end c = let l : length c.args.held.now ≡ bc5_size = let a = c.args in bytes_sixteen a.first.now a.second.now a.held.now (dither_check a.o ∷ nan_checks a.first.now a.second.now) (sym (passes _ c.in_ok-resend.ensures)) in search rules
 
-pub slice_bounds-from_bytes-end-in-Passed : goal.slice_bounds-from_bytes-end-in-Passed
-slice_bounds-from_bytes-end-in-Passed c = let l : length c.args.held.now ≡ bc5_size = let a = c.args in bytes_sixteen a.first.now a.second.now a.held.now (dither_check a.o ∷ nan_checks a.first.now a.second.now) (sym c.resend-checked.ensures ∙ c.in-Passed.is) in search rules
+pub slice_bounds-from_bytes-end-2 : goal.slice_bounds-from_bytes-end-2
+slice_bounds-from_bytes-end-2 c = let l : length c.args.held.now ≡ bc5_size = let a = c.args in bytes_sixteen a.first.now a.second.now a.held.now (dither_check a.o ∷ nan_checks a.first.now a.second.now) (sym (passes _ c.in_ok-resend.ensures)) in search rules
 
-pub returns-in-Passed : goal.returns-in-Passed
-returns-in-Passed c =
-    let both : BothSixteen c.args.first.now c.args.second.now = let a = c.args in both_sixteen a.first.now a.second.now (length_check (length a.held.now) bc5_size ∷ dither_check a.o ∷ nan_checks a.first.now a.second.now) (sym c.resend-checked.ensures ∙ c.in-Passed.is) in
-    rw (← c.resend-checked.ensures, c.in-Passed.is, c.better.ensures, c.better-in-Passed.ensures, c.from_bytes.ensures, c.from_bytes-in-Passed.ensures, c.gather-a.ensures, c.gather-b.ensures, block_of_whole _ both.0, block_of_whole _ both.1)
+pub returns : goal.returns
+returns c =
+    let both : BothSixteen c.args.first.now c.args.second.now = let a = c.args in both_sixteen a.first.now a.second.now (length_check (length a.held.now) bc5_size ∷ dither_check a.o ∷ nan_checks a.first.now a.second.now) (sym (passes _ c.in_ok-resend.ensures)) in
+    rw (← c.in_ok-resend.ensures, c.better.ensures, c.better-2.ensures, c.from_bytes.ensures, c.from_bytes-2.ensures, c.gather-a.ensures, c.gather-b.ensures, block_of_whole _ both.0, block_of_whole _ both.1)

@@ -6,7 +6,7 @@ use lib.Dec.{lit<}
 use Rattle.refusal.specs.declared.Refusal.{Refusal}
 use Rattle.refusal.specs.Refusals.{refusal_in, number_of, encode_checks, and_word}
 use Rattle.refusal.proofs.Firsts.{refusal_of, first_among}
-use Rattle.core.specs.declared.result.Result.TheVariants.{Err}
+use Rattle.std.specs.declared.result.Result.TheVariants.{Err}
 use Rattle.lines.specs.Input.{record_word, samples_of}
 use Rattle.lines.specs.Answers.{answer_of, line_of, AtStart}
 use Rattle.lines.proofs.line.Goals as goal

@@ -1,11 +1,11 @@
-use Rattle.refusal.proofs.Firsts.{word_last}
+use Rattle.refusal.proofs.Firsts.{no_value, word_last}
 use Rattle.bc5.specs.Checks.{resend_checks}
 use Rattle.bc5.proofs.word.resend.Goals as goal
 
 pub returns-then-w : goal.returns-then-w
 returns-then-w c =
     let a = c.args in
-    rw (word_last (resend_checks a.first.now a.second.now a.held.now a.w.options) _, c.if-w.true, c.or_malformed.ensures, c.resend-checked.ensures)
+    rw (word_last (resend_checks a.first.now a.second.now a.held.now a.w.options) _, c.if-w.true, c.or_malformed.ensures, c.resend-checked.ensures, no_value)
 
 pub returns : goal.returns
 returns c =

@@ -1,8 +1,11 @@
-use native.Mathlib.Omega.{arith}
-use Rattle.block.proofs.Fill.{fill_end}
+use lib.Ieee.{nan}
+use Rattle.std.proofs.Common.{rules}
+use Rattle.floats.specs.Arithmetic.{◌⊖◌, f1}
+use Rattle.block.specs.Samples.{pixel_at}
+use Rattle.block.proofs.Made.{made}
 use Rattle.bcn_util.specs.LeastSquares.{complement}
 use Rattle.bcn_util.proofs.least_squares.complement.Goals as goal
 
 pub returns : goal.returns
 unfolding complement
-returns c = fill_end c.loop-i.invariant (omega arith)
+returns c = made _ _ (λ i. f1 ⊖ pixel_at c.args.w.now i) 16 (λ i y q l k. search rules) nan _ c.from_fn.ensures.items

@@ -1,7 +1,7 @@
 -- `lines::output::hex` meets its contract: the digits of each byte, in order, and a line feed.
 use Rattle.std.proofs.Common.{rules, refl, [], ◌∷◌, ◌/◌, ◌%◌}
 use Rattle.lines.specs.Output.{digit, hex_line}
-use Rattle.lines.proofs.Mapped.{mapped}
+use Rattle.fields.proofs.Mapped.{mapped}
 use Rattle.lines.proofs.output.hex.Goals as goal
 
 pub returns : goal.returns

@@ -3,4 +3,4 @@ use Rattle.palette.proofs.inter4.Nearest.default.Goals as goal
 
 pub returns : goal.returns
 unfolding default_of
-returns c = rw (c.pick.ensures, c.pick_index.ensures)
+returns c = rw (c.pick-2.ensures, c.pick.ensures)

@@ -10,4 +10,4 @@ unfolding nearer_of
 returns c =
     let a = c.args in
     let e = abs_of (a.pixel ⊖ a.color) in
-    rw (c.pick.ensures, c.pick_index.ensures, c.abs-error.ensures) (nearest_fields (lt e a.self.error) a.k e a.self)
+    rw (c.pick-2.ensures, c.pick.ensures, c.abs-error.ensures) (nearest_fields (lt e a.self.error) a.k e a.self)

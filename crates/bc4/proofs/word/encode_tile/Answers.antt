@@ -1,0 +1,14 @@
+use lib.ListN.{length}
+use Rattle.refusal.specs.Refusals.{tile_checks}
+use Rattle.refusal.proofs.Firsts.{word_last}
+use Rattle.bc4.proofs.word.encode_tile.Goals as goal
+
+pub returns-then-w-clause-answer : goal.returns-then-w-clause-answer
+returns-then-w-clause-answer c =
+    let a = c.args in
+    rw (word_last (tile_checks a.samples.now a.width a.height (length a.out.now)) _, c.if-w.true, c.or_malformed.ensures, c.tile-checked.ensures.refusal)
+
+pub returns-clause-answer : goal.returns-clause-answer
+returns-clause-answer c =
+    let a = c.args in
+    rw (word_last (tile_checks a.samples.now a.width a.height (length a.out.now)) _, c.if-w.false) c.encode_tile.ensures.answer

@@ -1,9 +1,0 @@
-use Prim.Native.Nat.{ℕ}
-use lib.Ieee.{nan}
-use Rattle.block.specs.Samples.{pixel_at}
-use Rattle.block.proofs.Fill.{Filled}
-use Rattle.floats.specs.Arithmetic.{◌⊗◌}
-use Rattle.bcn_util.proofs.least_squares.dot_in_pairs.Given as goal
-
-abbrev pub invariant-loop-i : goal.invariant-loop-i
-invariant-loop-i l = Filled nan (λ (k : ℕ). pixel_at l.u k ⊗ pixel_at l.v k) 16 l.e l.i
