@@ -8,7 +8,7 @@ use Rattle.decode.specs.BlockError.{block_error}
 use Rattle.place.specs.Place.{bc4_size, bc5_size, encoded_length, block_at, all_bytes}
 use Rattle.tile.specs.Tile.{pair_bytes}
 use Rattle.std.specs.declared.result.Result.TheVariants.{Ok, Err}
-use Rattle.refusal.specs.Refusals.{Answer, Checked, refusal_in, first_of, answered}
+use Rattle.refusal.specs.Refusals.{Answer, refusal_in, first_of, answered}
 use Rattle.bc4.specs.Calls.{better_of}
 use Rattle.bc5.specs.declared.Halves.{Halves}
 use Rattle.bc5.specs.declared.Errors.{Errors as BothErrors}

@@ -2,7 +2,7 @@
 use Rattle.std.specs.Prelude.{Bool, List, [], ◌++◌, ℕ, ◌+◌, eqb, drop}
 use Rattle.place.specs.Place.{bc4_size, encoded_length}
 use Rattle.std.specs.declared.result.Result.TheVariants.{Ok, Err}
-use Rattle.refusal.specs.Refusals.{Answer, Checked, first_of, answered}
+use Rattle.refusal.specs.Refusals.{Answer, first_of, answered}
 use Rattle.dds.specs.declared.Picture.{Picture}
 use Rattle.dds.specs.Layout.{header_length, signed_format, file_of, height_in, width_in, format_in, body_at}
 use Rattle.dds.specs.Checks.{write_checks, read_checks}

@@ -8,12 +8,11 @@ use lib.Ieee.{Float}
 use Rattle.options.specs.declared.Options.{Options}
 use Rattle.place.specs.Place.{bc4_size, bc5_size, encoded_length}
 use Rattle.place.proofs.Places.{size_good}
-use Rattle.refusal.specs.declared.Refusal.{Refusal}
 use Rattle.refusal.specs.declared.Refusal.TheVariants.{WordMalformed, InChannel}
 use Rattle.refusal.specs.declared.Channel.TheVariants.{First, Second}
 use Rattle.refusal.specs.declared.Fault.TheVariants.{Nan, TileNan}
 use Rattle.std.specs.declared.result.Result.TheVariants.{Ok, Err}
-use Rattle.refusal.specs.Refusals.{Checked, refusal_in, Check, when, first_of, answered, count_check, room_check, tile_nan_check, size_checks, encode_checks, resend_checks, tile_checks, view_checks}
+use Rattle.refusal.specs.Refusals.{refusal_in, Check, when, first_of, answered, count_check, room_check, tile_nan_check, size_checks, encode_checks, resend_checks, tile_checks, view_checks}
 use Rattle.refusal.proofs.Firsts.{refusal_of, first_clear, both_passed, same_of}
 use Rattle.refusal.proofs.Sizes.{size_passed}
 use Rattle.bc4.specs.Word.{word_of}

@@ -18,7 +18,7 @@ use Rattle.tile.specs.Tile.{block_bytes, tile_bytes}
 use Rattle.place.proofs.Places.{rows_length, block_within}
 use Rattle.place.proofs.Joined.{in_first, all_length, block_stands}
 use Rattle.place.proofs.Samples.{block_of_length, block_of_real}
-use Rattle.std.specs.declared.result.Result.TheVariants.{Ok, Err}
+use Rattle.std.specs.declared.result.Result.TheVariants.{Ok}
 use Rattle.refusal.specs.Refusals.{refusal_in, first_of, first_nan, encode_checks, tile_checks}
 use Rattle.bc4.specs.Calls.{encode_answer}
 use Rattle.refusal.proofs.Firsts.{refusal_of}

@@ -1,19 +1,17 @@
 -- Each check of a message says what the table's condition says. That bytes are other bytes can be said once both are eight.
 use mathlib.Core.Path.{◌≡◌, refl, sym, ap, ◌∙◌}
-use mathlib.Core.Bool.{Bool, true, false, not, cond, ◌&&◌}
+use mathlib.Core.Bool.{Bool, true, false, not, ◌&&◌}
 use mathlib.Core.List.{List}
 use Prim.Native.Nat.{ℕ, ◌-◌, ◌*◌, ◌/◌, ◌%◌, ◌<◌}
 use native.Mathlib.Omega.{arith}
-use lib.Dec.{eqb, ltb}
+use lib.Dec.{eqb}
 use lib.ListN.{length, length-take, length-drop}
 use borrow.Author.Tests.{eq-eqb, eqb-true, ne_eqb, eqb-false, not-true}
 use Rattle.place.specs.Place.{bc4_size, encoded_length}
-use Rattle.std.specs.declared.result.Result.TheVariants.{Ok, Err}
 use Rattle.refusal.specs.Refusals.{refusal_in, first_of}
 use Rattle.refusal.proofs.Firsts.{refusal_of}
-use Rattle.station.specs.declared.Received.TheVariants.{Taken, Repeated, Replaced, Old}
 use Rattle.station.specs.Editions.{Message, Held, entry_size, entry_at, bytes_at, is_empty, edition_in, ahead, alike, halfway}
-use Rattle.station.specs.Receiving.{held_checks, receive_checks, becomes, receive_answer}
+use Rattle.station.specs.Receiving.{held_checks, receive_checks, receive_answer}
 use Rattle.station.proofs.Room.{room}
 use Rattle.station.proofs.Cases.{alike_same, alike_equal}
 use Rattle.demands.specs.Exactly.{Iff, Exactly}

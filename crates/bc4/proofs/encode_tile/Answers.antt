@@ -1,6 +1,6 @@
 use mathlib.Core.Path.{sym}
 use lib.ListN.{length}
-use Rattle.refusal.proofs.Tiles.{Samples, tile_passed}
+use Rattle.refusal.proofs.Tiles.{tile_passed}
 use Rattle.bc4.proofs.encode_tile.Goals as goal
 
 pub encode_rows-requires : goal.encode_rows-requires

@@ -1,4 +1,4 @@
-use mathlib.Core.Path.{sym, ◌∙◌}
+use mathlib.Core.Path.{sym}
 use native.Mathlib.Omega.{arith}
 use Rattle.place.proofs.Samples.{block_of_whole}
 use Rattle.bc5.specs.Checks.{nan_checks}

@@ -8,7 +8,7 @@ use Rattle.refusal.specs.Refusals.{refusal_in, number_of, encode_checks, and_wor
 use Rattle.refusal.proofs.Firsts.{refusal_of, first_among}
 use Rattle.std.specs.declared.result.Result.TheVariants.{Err}
 use Rattle.lines.specs.Input.{record_word, samples_of}
-use Rattle.lines.specs.Answers.{answer_of, line_of, AtStart}
+use Rattle.lines.specs.Answers.{answer_of, line_of}
 use Rattle.lines.proofs.line.Goals as goal
 
 -- A record is refused by one of the checks of the block call by word: 2, 7 and 8.

@@ -1,6 +1,6 @@
-use borrow.Author.Tests.{eq-eqb, ne_eqb, lt-ltb, le-ltb}
+use borrow.Author.Tests.{eq-eqb, le-ltb}
 use Rattle.refusal.specs.Refusals.{first_of, size_checks}
-use Rattle.refusal.proofs.Firsts.{handed_on, passes, refused_first, passed_first}
+use Rattle.refusal.proofs.Firsts.{handed_on, refused_first, passed_first}
 use Rattle.refusal.proofs.tile.Goals as goal
 
 pub returns-in_err-size-clause-refusal : goal.returns-in_err-size-clause-refusal

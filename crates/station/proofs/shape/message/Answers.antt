@@ -1,4 +1,3 @@
-use native.Mathlib.Omega.{arith}
 use Rattle.refusal.specs.Refusals.{bytes_checks}
 use Rattle.refusal.proofs.Firsts.{refused_there}
 use Rattle.station.proofs.shape.message.Goals as goal

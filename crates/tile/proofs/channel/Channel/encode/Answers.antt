@@ -5,7 +5,7 @@ use Prim.Native.Nat.{ℕ, ◌*◌, ◌-◌, ◌<◌, ◌≤◌}
 use native.Mathlib.Omega.{arith}
 use lib.ListN.{take, drop, length-take, length-drop}
 use Rattle.place.specs.Place.{longest_side, along, encoded_length, block_at}
-use Rattle.place.proofs.Places.{RowRoom, size_good, bytes_small, rows_length, row_room}
+use Rattle.place.proofs.Places.{RowRoom, bytes_small, rows_length, row_room}
 use Rattle.place.proofs.Joined.{joined_ext, grown_start, grown_rest, grown_step, row_length}
 use Rattle.tile.specs.Tile.{block_bytes, block_in, laid_in, channel_block}
 use Rattle.tile.proofs.Blocks.{block_of_row, laid_in_length}
