@@ -30,6 +30,7 @@ fn laid_out(e: EndPoints, x: Indexed) -> Coded
     }
 }
 
+#[tactic(auto, unfolding(crate::specs::Coding::ended))]
 pub fn ended<P: Palette>(b: &[f32; 16], dither: bool, e: EndPoints) -> Coded
     ensures { result ≡ ended_of P.kind b.now dither e }
 {

@@ -29,6 +29,7 @@ fn upward(h: Held) -> bool
 }
 
 impl Sorted<'_> {
+    #[tactic(auto, unfolding(crate::specs::Inter4::candidate))]
     fn candidate(&self, h: Held, low: u32, high: u32) -> Held
         requires { (low < high) × (high < 16) }
         ensures { result ≡ candidate_of self.now.block.now h low high }
@@ -64,6 +65,7 @@ impl Sorted<'_> {
     }
 }
 
+#[tactic(auto, using(crate::proofs::Counting::count_le), unfolding(crate::specs::Inter4::reassigned))]
 fn inter4_reassign_defaults(b: &[f32; 16], p: Pair) -> Pair
     ensures { result ≡ reassigned b.now p }
 {
@@ -90,6 +92,7 @@ fn first_ends(b: &[f32; 16], reassign: bool, p: Pair) -> Pair
     p
 }
 
+#[tactic(auto, unfolding(crate::specs::Inter4::compress_inter4))]
 pub fn compress_inter4(b: &[f32; 16], o: Options) -> Coded
     ensures { result ≡ compress_inter4 b.now o }
 {

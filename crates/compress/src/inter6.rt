@@ -9,6 +9,7 @@ use options::Options;
 use palette::inter6::Inter6Palette;
 
 // compress_inter6_impl
+#[tactic(auto, unfolding(crate::specs::Inter6::compressed_from))]
 fn compressed_from(b: &[f32; 16], p: Pair, o: Options) -> Coded
     ensures { result ≡ compressed_from b.now p o }
 {
@@ -23,6 +24,7 @@ fn nudged(mean: f32, x: f32) -> f32
     mean + (x - mean) * 0.95
 }
 
+#[tactic(auto, unfolding(crate::specs::Inter6::nudged_pair))]
 fn nudged_pair(b: &[f32; 16], p: Pair) -> Pair
     ensures { result ≡ nudged_pair b.now p }
 {
@@ -30,6 +32,7 @@ fn nudged_pair(b: &[f32; 16], p: Pair) -> Pair
     Pair(nudged(mean, p.0), nudged(mean, p.1))
 }
 
+#[tactic(auto, unfolding(crate::specs::Inter6::five))]
 fn five(p: Pair) -> Pair
     ensures { result ≡ five_of p }
 {
@@ -42,6 +45,7 @@ fn five(p: Pair) -> Pair
     Pair(p.0, floats::min(max5, 1.0))
 }
 
+#[tactic(auto, unfolding(crate::specs::Inter6::compress_inter6))]
 pub fn compress_inter6(b: &[f32; 16], p: Pair, o: Options) -> Coded
     ensures { result ≡ compress_inter6 b.now p o }
 {

@@ -8,6 +8,7 @@ ghost use Rattle.block.specs.Samples.{pixel_at};
 ghost use Rattle.compress.specs.Network.{smaller_first, stepped, run, pass as pass_of, capped as capped_of, InOrder};
 
 // With no test for a NaN: `capped` leaves none.
+#[tactic(auto, unfolding(crate::specs::Network::stepped))]
 fn exchange(s: &mut [f32; 16], i: usize, j: usize)
     requires { (i < 16) × (j < 16) }
     ensures { s.new ≡ stepped smaller_first s.old (record { i = i; j = j }) }

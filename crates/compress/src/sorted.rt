@@ -3,6 +3,7 @@ ghost use Rattle.std.specs.Prelude.{◌≡◌, ◌<◌};
 ghost use Rattle.compress.specs.Sorted.{not_above, placed as placed_of, place_of};
 ghost use Rattle.compress.specs.Network.{InOrder, first_zero};
 
+#[tactic(auto, using(crate::proofs::Places::count_more), unfolding(crate::specs::Sorted::count_to))]
 fn not_above(b: &[f32; 16], x: f32) -> u32
     ensures { result ≡ not_above b.now x }
 {
@@ -15,6 +16,7 @@ fn not_above(b: &[f32; 16], x: f32) -> u32
 }
 
 // Zeros of both signs are equal, and the sort may exchange them: the first of the block stands for all. After entry there is one zero only.
+#[tactic(auto, using(crate::proofs::Places::first_zero_more), unfolding(crate::specs::Network::first_zero_to))]
 fn first_zero(b: &[f32; 16]) -> f32
     ensures { result ≡ first_zero b.now }
 {

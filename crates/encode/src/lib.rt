@@ -30,6 +30,7 @@ fn six_only(o: Options, p: Pair) -> bool
     !o.use_inter4 | (o.use_inter4_heuristic & amid(p))
 }
 
+#[tactic(auto, unfolding(crate::specs::Encoder::compressed_of))]
 fn compressed_of(b: &[f32; 16], o: Options, p: Pair) -> u64
     ensures { result ≡ compressed_of b.now o p }
 {
@@ -42,6 +43,7 @@ fn compressed_of(b: &[f32; 16], o: Options, p: Pair) -> u64
 }
 
 // The smallest and the largest of a block that has entered are in 0..1.
+#[tactic(auto, using(crate::proofs::Middle::middle_from_0, crate::proofs::Middle::middle_to_1), unfolding(crate::specs::Encoder::encoded))]
 fn encoded(b: &[f32; 16], o: Options, p: Pair) -> u64
     requires { (le f0 p.0 ≡ true) × (le p.0 f1 ≡ true) × (le f0 p.1 ≡ true) × (le p.1 f1 ≡ true) }
     ensures { result ≡ encoded_of b.now o p }

@@ -35,6 +35,7 @@ fn rounded_up(x: f32, snorm: bool) -> u8
     values::steps(snorm) - floats::byte_of(scale(snorm) * (1.0 - x))
 }
 
+#[tactic(auto, unfolding(crate::specs::Levels::apart))]
 fn apart(low: u8, high: u8) -> Levels
     ensures { result ≡ L.apart low high }
 {
@@ -48,6 +49,7 @@ fn apart(low: u8, high: u8) -> Levels
 }
 
 // The caller's signed ends are clamped, or a NaN.
+#[tactic(auto, using(crate::proofs::Ordered::between_same, crate::proofs::Ordered::between_other))]
 fn between(min: f32, max: f32, snorm: bool) -> Levels
     requires { L.down_from_top snorm max ≤ steps snorm }
     ensures { result ≡ L.levels_between min max snorm }

@@ -22,6 +22,7 @@ pub struct EndPoints {
 
 impl EndPoints {
     // Two bytes, with the floats of the bytes.
+    #[tactic(auto, unfolding(crate::specs::EndPoints::of_bytes))]
     fn of_bytes(c0: u8, c1: u8, snorm: bool) -> Self
         ensures { result ≡ of_bytes c0 c1 snorm }
     {
@@ -49,6 +50,7 @@ impl EndPoints {
     }
 
     // The larger first.
+    #[tactic(auto, unfolding(crate::specs::EndPoints::quantized))]
     pub fn quantize(e0: f32, e1: f32, snorm: bool) -> Pair
         ensures { result ≡ quantized e0 e1 snorm }
     {
@@ -60,6 +62,7 @@ impl EndPoints {
     }
 
     // The Rust's `swap` where the signed bytes are not in order.
+    #[tactic(auto, unfolding(crate::specs::EndPoints::swapped))]
     fn swapped(c0: u8, c1: u8, snorm: bool) -> Self
         ensures { result ≡ swapped_of c0 c1 snorm }
     {
@@ -70,6 +73,7 @@ impl EndPoints {
     }
 
     // For the six-value mode, c0 above c1.
+    #[tactic(auto, using(crate::proofs::Ordered::levels_distinct, crate::proofs::Ordered::low_le), unfolding(crate::specs::EndPoints::inter6))]
     pub fn new_inter6(e0: f32, e1: f32, snorm: bool) -> Self
         ensures { result ≡ inter6 e0 e1 snorm }
     {
@@ -81,6 +85,7 @@ impl EndPoints {
         )
     }
 
+    #[tactic(auto, unfolding(crate::specs::EndPoints::inter4))]
     pub fn new_inter4(e0: f32, e1: f32, snorm: bool) -> Self
         ensures { result ≡ inter4 e0 e1 snorm }
     {
@@ -93,6 +98,7 @@ impl EndPoints {
         Self::of_bytes(c0, c1, false)
     }
 
+    #[tactic(auto, unfolding(crate::specs::EndPoints::exchanged))]
     pub fn inter6_to_inter4(self) -> Self
         ensures { result ≡ exchanged self }
     {

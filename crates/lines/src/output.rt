@@ -21,6 +21,7 @@ pub fn hex(block: u64) -> [u8; 17]
 }
 
 // The number of a refusal that has one digit.
+#[tactic(auto, unfolding(crate::specs::Output::refused_line))]
 pub fn refused(number: u8) -> [u8; 10]
     requires { number < 10 }
     ensures { result ≡ refused_line number }

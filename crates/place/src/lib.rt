@@ -16,12 +16,14 @@ pub const BC4_SIZE: usize = 8;
 // The bytes of a BC5 block: two of BC4.
 pub const BC5_SIZE: usize = 16;
 
+#[tactic(auto, unfolding(crate::specs::Place::bad_side))]
 fn bad_side(n: usize) -> bool
     ensures { result ≡ bad_side n }
 {
     (n == 0) | (LONGEST_SIDE < n) | (n % 4 != 0)
 }
 
+#[tactic(auto, unfolding(crate::specs::Place::bad_size))]
 pub fn bad_size(width: usize, height: usize) -> bool
     ensures { result ≡ bad_size width height }
 {

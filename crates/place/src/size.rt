@@ -21,6 +21,7 @@ impl Size {
     }
 
     // How many samples.
+    #[tactic(auto, using(crate::proofs::Places::size_small))]
     pub fn area(self) -> usize
         ensures { result ≡ self.width * self.height }
     {
@@ -28,6 +29,7 @@ impl Size {
     }
 
     // The bytes of all blocks, each of so many.
+    #[tactic(auto, using(crate::proofs::Places::size_small, crate::proofs::Places::bytes_small))]
     pub fn encoded_length(self, block: usize) -> usize
         requires { block ≤ bc5_size }
         ensures { result ≡ encoded_length block self.width self.height }

@@ -8,6 +8,7 @@ use palette::inter6::Inter6Palette;
 // More than what rounding moves a value beyond the ends.
 const MARGIN: f32 = 1.0 / 4194304.0;
 
+#[tactic(auto, unfolding(crate::specs::Floor::beyond))]
 fn beyond(low: f32, high: f32, pixel: f32) -> f32
     ensures { result ≡ beyond_of low high pixel }
 {
@@ -18,6 +19,7 @@ fn beyond(low: f32, high: f32, pixel: f32) -> f32
     )
 }
 
+#[tactic(auto, unfolding(crate::specs::Floor::at_least))]
 fn at_least(d: f32, pixel: f32) -> f32
     ensures { result ≡ at_least d pixel }
 {
@@ -61,6 +63,7 @@ pub fn max_floors(b: &[f32; 16]) -> [f32; 256]
 }
 
 // A NaN is handed on: it is above nothing, and so passes nothing over.
+#[tactic(auto, unfolding(crate::specs::Floor::row_floor))]
 fn row_floor(b: &[f32; 16], low: f32, high: f32) -> f32
     ensures { result ≡ row_floor b.now low high }
 {

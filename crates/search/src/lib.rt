@@ -20,6 +20,7 @@ use palette::Palette;
 use palette::inter4::Inter4Palette;
 use palette::inter6::Inter6Palette;
 
+#[tactic(auto, unfolding(crate::specs::Search::mode_tried))]
 fn mode_tried<P: Palette>(b: &[f32; 16], best: Coded, e: EndPoints) -> Coded
     ensures { result ≡ mode_tried P.kind b.now best e }
 {
@@ -35,6 +36,7 @@ fn mode_tried<P: Palette>(b: &[f32; 16], best: Coded, e: EndPoints) -> Coded
 }
 
 // Neither error of the pair is below the floor, so where what is held is not above it, nothing has to be tried.
+#[tactic(auto, using(crate::proofs::PassedOver::pair_passed), unfolding(crate::specs::Search::pair_tried))]
 fn pair_tried(b: &[f32; 16], floor: f32, best: Coded, min: u8, max: u8) -> Coded
     requires { (kind : KindOf) → lt (pair_error kind b.now min max) floor ≡ false }
     ensures { result ≡ pair_tried b.now best min max }
@@ -47,6 +49,7 @@ fn pair_tried(b: &[f32; 16], floor: f32, best: Coded, min: u8, max: u8) -> Coded
     mode_tried::<Inter4Palette>(b, six, e.inter6_to_inter4())
 }
 
+#[tactic(auto, using(crate::proofs::Steps::maxes_more), unfolding(crate::specs::Search::maxes_tried))]
 fn maxes_tried(b: &[f32; 16], floors: &[f32], start: Coded, min: u8, at: usize) -> Coded
     requires { FloorsFrom b.now min at floors.now × (at + length floors.now ≤ 256) }
     ensures { result ≡ maxes_tried b.now start min at (length floors.now) }
@@ -85,6 +88,7 @@ impl MaxFloors<'_> {
         held
     }
 
+    #[tactic(auto, using(crate::proofs::Steps::mins_more), unfolding(crate::specs::Search::mins_tried))]
     fn mins_tried(&self, least: u8, start: Coded, limit: u8) -> Coded
         ensures { result ≡ mins_tried self.now.block.now least start limit }
     {
@@ -110,6 +114,7 @@ fn start_error(b: &[f32; 16], min: u8, max: u8) -> f32
     f32::INFINITY
 }
 
+#[tactic(auto, using(crate::proofs::Start::started), unfolding(crate::specs::Search::searched))]
 pub fn reference_brute_force(b: &[f32; 16], p: Pair) -> u64
     ensures { result ≡ searched b.now p }
 {

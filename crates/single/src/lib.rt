@@ -36,6 +36,7 @@ fn around<P: Palette>(value: f32, e: EndPoints) -> Coded
 }
 
 // The more exact of the two palettes.
+#[tactic(auto, unfolding(crate::specs::Single::around))]
 fn nearer_palette(value: f32, snorm: bool) -> u64
     ensures { result ≡ nearer_palette value snorm }
 {
@@ -45,6 +46,7 @@ fn nearer_palette(value: f32, snorm: bool) -> u64
 }
 
 // The value is the middle of two samples, which entry clamped.
+#[tactic(auto, unfolding(crate::specs::Single::single_color, block::specs::Samples::tabulate))]
 pub fn single_color(value: f32, snorm: bool, dither: bool) -> u64
     requires { (le f0 value ≡ true) × (le value f1 ≡ true) }
     ensures { result ≡ single_color value snorm dither }
