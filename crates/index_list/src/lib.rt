@@ -22,6 +22,7 @@ impl IndexList {
     }
 
     // Callers hand on an index that a palette's `closest` answered, and those are below 8.
+    #[tactic(auto, unfolding(crate::specs::Indexes::filled_to))]
     pub fn new_all(value: u8) -> Self
         requires { value < 8 }
         ensures { result.data ≡ filled_to (λ i. value) 16 }
