@@ -106,6 +106,7 @@ pub fn up_to_7(x: f32) -> f32
 }
 
 // By way of i32: x86-64 casts four floats to signed integers at once, to unsigned ones not.
+#[tactic(auto, using(crate::proofs::Casts::up_to_7_le, crate::proofs::Casts::up_to_7_back, crate::proofs::Casts::up_to_7_read))]
 pub fn byte_up_to_7(x: f32) -> u32
     ensures { result ≡ byte_up_to7 x }
 {

@@ -68,6 +68,7 @@ pub fn bytes(block: u64) -> [u8; 8]
 }
 
 // The number of eight bytes in order.
+#[tactic(auto, using(crate::proofs::Laws::eight_read))]
 pub fn from_bytes(b: &[u8]) -> u64
     requires { length b.now ≡ 8 }
     ensures { result ≡ from_bytes b.now }
