@@ -18,6 +18,7 @@ pub fn is_six(c0: u8, c1: u8, snorm: bool) -> bool
     values::byte_below(c1, c0, snorm)
 }
 
+#[tactic(auto, unfolding(crate::specs::Meaning::six_values))]
 fn six_values(c0: f32, c1: f32) -> [f32; 8]
     ensures { result ≡ six_values c0 c1 }
 {
@@ -75,6 +76,7 @@ pub fn decode_into(block: u64, snorm: bool, out: &mut [f32; 16])
     }
 }
 
+#[tactic(auto, unfolding(crate::specs::BlockError::sample_error))]
 fn sample_error(sample: f32, value: f32) -> f32
     ensures { result ≡ sample_error sample value }
 {
@@ -92,6 +94,7 @@ fn error_sum(samples: &[f32; 16], values: &[f32; 16]) -> f32
     sum
 }
 
+#[tactic(auto, unfolding(crate::specs::BlockError::block_error))]
 pub fn block_error(samples: &[f32; 16], block: u64, snorm: bool) -> f32
     ensures { result ≡ block_error samples.now block snorm }
 {

@@ -33,6 +33,7 @@ pub struct Lanes {
     pub above: bool,
 }
 
+#[tactic(auto, unfolding(crate::specs::Lanes::lane_of))]
 fn weigh_four(p: Inter6Palette, x0: f32, x1: f32, x2: f32, x3: f32) -> Lane
     ensures { result ≡ lane_of p x0 x1 x2 x3 }
 {
@@ -95,6 +96,7 @@ fn line_lanes(b: &[f32; 16], g: &[Lane; 4], e: f32, d: f32) -> [f32; 4]
     std::array::from_fn(|j| line_lane(b, g[j], e, d, j))
 }
 
+#[tactic(auto, unfolding(crate::specs::Lanes::matrix))]
 fn matrix(g: &[Lane; 4]) -> WeightMatrix
     ensures { result ≡ matrix_of g.now }
 {
@@ -113,6 +115,7 @@ fn all_above(g: &[Lane; 4]) -> bool
 
 // Called from two places, so that it stays a function of its own, which hands its lanes on in memory: what is written as four neighbours is worked
 // out as one vector.
+#[tactic(auto, unfolding(crate::specs::Lanes::fit_lanes))]
 fn fit_lanes(b: &[f32; 16], p: Pair) -> Lanes
     ensures { result ≡ fit_lanes b.now p }
 {
@@ -137,6 +140,7 @@ fn ends(l: Lanes) -> Pair
 }
 
 // A blend of -1 or less is rare, and so is a NaN.
+#[tactic(auto, unfolding(crate::specs::Fit::fitted))]
 fn fitted_plainly(b: &[f32; 16], p: Pair) -> Pair
     ensures { result ≡ fitted_of b.now p }
 {
@@ -145,6 +149,7 @@ fn fitted_plainly(b: &[f32; 16], p: Pair) -> Pair
     Pair(floats::clamp(q.0), floats::clamp(q.1))
 }
 
+#[tactic(auto, using(crate::proofs::FitLaws::lanes_fitted))]
 fn fitted(b: &[f32; 16], p: Pair) -> Pair
     ensures { result ≡ fitted_of b.now p }
 {
@@ -155,6 +160,7 @@ fn fitted(b: &[f32; 16], p: Pair) -> Pair
     fitted_plainly(b, p)
 }
 
+#[tactic(auto, using(crate::proofs::FitLaws::lanes_fitted))]
 pub fn fitted_twice(b: &[f32; 16], p: Pair) -> Pair
     ensures { result ≡ fitted_of b.now (fitted_of b.now p) }
 {

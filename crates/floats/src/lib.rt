@@ -18,6 +18,7 @@ pub fn pick<T: Copy>(t: bool, a: T, b: T) -> T
 }
 
 // The larger of x and 0 - x, which is +0 for both zeros. std's `abs` branches, where four of these are one vector: measured, sixteen take 31 jumps.
+#[tactic(auto, using(crate::proofs::Distances::abs_is))]
 pub fn abs(x: f32) -> f32
     ensures { result ≡ abs_of x }
 {
@@ -64,6 +65,7 @@ pub fn entry_clamp(x: f32) -> f32
 
 // The whole part of a y from 0 up to 2^23, with no cast: a sum with 2^23 has no place left for a fraction, so what is then taken away leaves
 // the whole number below y or the one above.
+#[tactic(auto, using(crate::proofs::NearWhole::whole_part_is))]
 fn whole_part(y: f32) -> f32
     ensures { le f0 y ≡ true → lt y f2^23 ≡ true → result ≡ whole (to_unsigned 64 y) }
 {
@@ -73,6 +75,7 @@ fn whole_part(y: f32) -> f32
 
 // From 2^23 on every f32 is whole, and so is a zero, which keeps its sign. std's `trunc` branches on its bits: measured, the six-value weights take four
 // times as long (docs/SPEED.md).
+#[tactic(auto, using(crate::proofs::WholePart::trunc_is))]
 pub fn trunc(x: f32) -> f32
     ensures { result ≡ trunc_of x }
 {
@@ -95,6 +98,7 @@ pub fn one_if(t: bool) -> u32
 }
 
 // `(x as u8).min(7)` as an f32.
+#[tactic(auto, using(crate::proofs::Casts::kept_is))]
 pub fn up_to_7(x: f32) -> f32
     ensures { result ≡ whole (byte_up_to7 x) }
 {
@@ -102,6 +106,7 @@ pub fn up_to_7(x: f32) -> f32
 }
 
 // By way of i32: x86-64 casts four floats to signed integers at once, to unsigned ones not.
+#[tactic(auto, using(crate::proofs::Casts::up_to_7_le, crate::proofs::Casts::up_to_7_back, crate::proofs::Casts::up_to_7_read))]
 pub fn byte_up_to_7(x: f32) -> u32
     ensures { result ≡ byte_up_to7 x }
 {

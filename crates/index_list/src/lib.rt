@@ -22,6 +22,7 @@ impl IndexList {
     }
 
     // Callers hand on an index that a palette's `closest` answered, and those are below 8.
+    #[tactic(auto, unfolding(crate::specs::Indexes::filled_to))]
     pub fn new_all(value: u8) -> Self
         requires { value < 8 }
         ensures { result.data ≡ filled_to (λ i. value) 16 }
@@ -67,6 +68,7 @@ pub fn bytes(block: u64) -> [u8; 8]
 }
 
 // The number of eight bytes in order.
+#[tactic(auto, using(crate::proofs::Laws::eight_read))]
 pub fn from_bytes(b: &[u8]) -> u64
     requires { length b.now ≡ 8 }
     ensures { result ≡ from_bytes b.now }

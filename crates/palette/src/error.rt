@@ -12,6 +12,7 @@ fn squared_distance(value: f32, pixel: f32) -> f32
     (value - pixel) * (value - pixel)
 }
 
+#[tactic(auto, unfolding(crate::specs::PaletteError::nearer_square))]
 fn nearer(least: f32, value: f32, pixel: f32) -> f32
     ensures { result ≡ nearer_square least value pixel }
 {
@@ -36,6 +37,7 @@ pub fn sum(eight: [f32; 8], b: &[f32; 16]) -> f32
 }
 
 // What the first row adds.
+#[tactic(auto, unfolding(crate::specs::Rows::first_row_sum))]
 pub fn first_row_sum(eight: [f32; 8], b: &[f32; 16]) -> f32
     ensures { result ≡ first_row_sum eight b.now }
 {

@@ -20,6 +20,7 @@ pub struct Nearest {
 
 impl Nearest {
     // This handles the case where pixel is 0 or 1.
+    #[tactic(auto, unfolding(crate::specs::Closest::default_of))]
     fn default(pixel: f32) -> Self
         ensures { result ≡ default_of pixel }
     {
@@ -29,6 +30,7 @@ impl Nearest {
         }
     }
 
+    #[tactic(auto, unfolding(crate::specs::Closest::nearer_of), using(crate::proofs::ClosestLaws::nearest_fields))]
     fn or(self, k: u32, color: f32, pixel: f32) -> Self
         ensures { result ≡ nearer_of self k color pixel }
     {
@@ -42,6 +44,7 @@ impl Nearest {
 }
 
 impl Inter4Palette {
+    #[tactic(auto, unfolding(crate::specs::Palettes::colors))]
     pub fn new(c0: f32, c1: f32) -> Self
         ensures { result.colors ≡ colors_of c0 c1 }
     {
@@ -59,6 +62,7 @@ impl Inter4Palette {
         }
     }
 
+    #[tactic(auto, unfolding(crate::specs::Closest::nearest_to))]
     fn nearest(self, pixel: f32) -> Nearest
         ensures { result ≡ nearest_to self.colors pixel 6 }
     {
@@ -82,6 +86,7 @@ impl Palette for Inter4Palette {
         Self::new(c0, c1)
     }
 
+    #[tactic(auto, unfolding(crate::specs::Closest::closest4), using(crate::proofs::ClosestLaws::nearest6_lt))]
     fn closest(self, pixel: f32) -> Closest {
         let n = self.nearest(pixel);
         let c = self.colors;
@@ -110,6 +115,7 @@ impl Palette for Inter4Palette {
     }
 
     // 0 and 1 first.
+    #[tactic(auto, unfolding(crate::specs::Palettes::values_of, crate::specs::Palettes::values4, crate::specs::Palettes::colors))]
     fn values(c0: f32, c1: f32) -> [f32; 8] {
         let c = Self::new(c0, c1).colors;
         [0.0, 1.0, c[0], c[1], c[2], c[3], c[4], c[5]]

@@ -63,6 +63,7 @@ pub struct Inter6Palette {
 }
 
 impl Inter6Palette {
+    #[tactic(auto, unfolding(crate::specs::Palettes::inter6_palette))]
     pub fn new(c0: f32, c1: f32) -> Self
         ensures { result ≡ inter6_palette c0 c1 }
     {
@@ -92,6 +93,7 @@ impl Inter6Palette {
     }
 
     // k counts sevenths: 8 less the index that a decoder reads.
+    #[tactic(auto, unfolding(crate::specs::Palettes::blended))]
     pub fn blended(self, k: u32) -> f32
         requires { k ≤ 7 }
         ensures { result ≡ blended_of self k }
@@ -100,12 +102,14 @@ impl Inter6Palette {
     }
 
     // The value of a blend7, with no way over the integer.
+    #[tactic(auto, unfolding(crate::specs::Palettes::blended))]
     fn value(self, pixel: f32) -> f32
         ensures { result ≡ blended_of self (blend7_of self pixel) }
     {
         floats::up_to_7(self.blend(pixel)) * self.factor2 + self.c1
     }
 
+    #[tactic(auto, unfolding(crate::specs::Closest::weight))]
     pub fn closest_weight(self, pixel: f32) -> f32
         ensures { result ≡ weight self pixel }
     {
@@ -128,6 +132,7 @@ impl Inter6Palette {
         }
     }
 
+    #[tactic(auto, unfolding(crate::specs::Rows::row_code, crate::specs::Rows::row_sum))]
     fn four(self, x: f32, y: f32, z: f32, w: f32) -> Row
         ensures { (result.code ≡ row_code self x y z w) × (result.code < 4096) × (result.sum ≡ row_sum self x y z w) }
     {
@@ -158,6 +163,7 @@ impl Palette for Inter6Palette {
         Self::new(c0, c1)
     }
 
+    #[tactic(auto, unfolding(crate::specs::Closest::closest6))]
     fn closest(self, pixel: f32) -> Closest {
         let k = self.blend7(pixel);
         let value = self.value(pixel);
@@ -185,6 +191,7 @@ impl Palette for Inter6Palette {
     }
 
     // From c0 to c1.
+    #[tactic(auto, unfolding(crate::specs::Palettes::values_of, crate::specs::Palettes::values6))]
     fn values(c0: f32, c1: f32) -> [f32; 8] {
         let cd = c1 - c0;
         [

@@ -87,6 +87,7 @@ fn row_code(k: &[u32; 16], i: usize) -> u32
     four(n.x, n.y, n.z, n.w)
 }
 
+#[tactic(auto, unfolding(index_list::specs::Indexes::filled_to))]
 fn indexes(k: &[u32; 16]) -> IndexList
     requires { (i : ℕ) → i < 16 → get_or k.now i 0 < 8 }
     ensures { result.data ≡ filled_to (λ i. get_or k.now i 0) 16 }

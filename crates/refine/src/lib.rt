@@ -18,6 +18,7 @@ const FAST_LEAST: f32 = 1.0 / 255.0;
 
 const LEAST: f32 = 1.0 / 255.0 / 2.0;
 
+#[tactic(auto, unfolding(crate::specs::Refining::other_pair))]
 fn other(p: Pair, base: Pair) -> Pair
     ensures { result ≡ other_pair p base }
 {
@@ -35,6 +36,7 @@ fn other(p: Pair, base: Pair) -> Pair
     )
 }
 
+#[tactic(auto, unfolding(crate::specs::Refining::medium))]
 fn medium<P: Palette>(b: &[f32; 16], snorm: bool, p: Pair) -> Held
     ensures { result ≡ medium_of P.kind b.now snorm p }
 {
@@ -59,6 +61,7 @@ fn high<P: Palette>(b: &[f32; 16], snorm: bool, p: Pair) -> Held
     h
 }
 
+#[tactic(auto, unfolding(crate::specs::Refining::quantizing))]
 fn quantizing<P: Palette>(quality: Quantization, b: &[f32; 16], snorm: bool, p: Pair) -> Pair
     ensures { result ≡ quantizing_of quality P.kind b.now snorm p }
 {
@@ -87,6 +90,7 @@ fn least_step(fast: bool) -> f32
     floats::pick(fast, FAST_LEAST, LEAST)
 }
 
+#[tactic(auto, unfolding(crate::specs::Refining::refined_ends))]
 pub fn refine_endpoints<P: Palette>(b: &[f32; 16], min: f32, max: f32, o: Options) -> Pair
     ensures { result ≡ refined_ends P.kind b.now (record { 0 = min; 1 = max }) o }
 {

@@ -13,6 +13,7 @@ pub struct Held {
     pub error: f32,
 }
 
+#[tactic(auto, unfolding(crate::specs::Rounds::held))]
 pub fn hold<P: Palette>(b: &[f32; 16], min: f32, max: f32) -> Held
     ensures { result ≡ held P.kind b.now min max }
 {
@@ -23,6 +24,7 @@ pub fn hold<P: Palette>(b: &[f32; 16], min: f32, max: f32) -> Held
     }
 }
 
+#[tactic(auto, using(crate::proofs::RoundLaws::better_is))]
 pub fn better<P: Palette>(b: &[f32; 16], h: Held, min: f32, max: f32) -> Held
     ensures { result ≡ better_of P.kind b.now h min max }
 {
@@ -33,6 +35,7 @@ pub fn better<P: Palette>(b: &[f32; 16], h: Held, min: f32, max: f32) -> Held
     h
 }
 
+#[tactic(auto, unfolding(crate::specs::Rounds::tried))]
 fn tried<P: Palette>(b: &[f32; 16], h: Held, min: f32, max: f32) -> Held
     ensures { result ≡ tried_of P.kind b.now h min max }
 {
@@ -77,6 +80,7 @@ fn rounds<P: Palette>(b: &[f32; 16], least: f32, limit: u8, first: f32, start: H
 }
 
 // No error is worked out where no round is run.
+#[tactic(auto, unfolding(crate::specs::Rounds::refined, crate::specs::Rounds::held), using(crate::proofs::RoundLaws::rounds_none, crate::proofs::RoundLaws::rounds_end))]
 pub fn refine_endpoints<P: Palette>(
     b: &[f32; 16],
     least: f32,
