@@ -51,15 +51,14 @@ fn max_floor(b: &[f32; 16], max: u8) -> f32
     sum(b, f32::NEG_INFINITY, values::n8::f32(max) + MARGIN)
 }
 
-// Worked out once: each min asks for them again.
-pub fn max_floors(b: &[f32; 16]) -> [f32; 256]
-    ensures { result ≡ max_floors b.now }
+// Worked out once: each min asks for them again. Into the caller's array, by a loop that counts: handed back, or made by `from_fn`, they stand twice and
+// three times on the stack, and a call has less than 4 KiB.
+pub fn max_floors(b: &[f32; 16], floors: &mut [f32; 256])
+    ensures { floors.new ≡ max_floors b.now }
 {
-    std::array::from_fn(
-        |max|
-            requires { max < 256 }
-        { max_floor(b, max as u8) },
-    )
+    for max in 0..256usize {
+        floors[max] = max_floor(b, max as u8);
+    }
 }
 
 // A NaN is handed on: it is above nothing, and so passes nothing over.

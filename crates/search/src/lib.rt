@@ -124,9 +124,11 @@ pub fn reference_brute_force(b: &[f32; 16], p: Pair) -> u64
         bytes: 0,
         error: start_error(b, least, limit),
     };
-    let floors = MaxFloors {
+    let mut floors = [0.0f32; 256];
+    floor::max_floors(b, &mut floors);
+    let all = MaxFloors {
         block: b,
-        floors: &floor::max_floors(b),
+        floors: &floors,
     };
-    floors.mins_tried(least, start, limit).bytes
+    all.mins_tried(least, start, limit).bytes
 }
