@@ -1,3 +1,4 @@
+pub mod AnyAnswer
 pub mod Flat
 pub mod WorkedValues
 pub mod Refusing
