@@ -26,6 +26,7 @@ fn sample(i: usize) -> f32 {
     ((i % 65521 * 1021 + i % 7 * 1500 + i % 251 * 40) % 65521) as u16 as f32 / 65536.0
 }
 
+// No conversion: what is left of 256 is a byte.
 fn byte(i: usize) -> u8 {
     ((i % 65521 * 37 + i % 65521 / 256 * 3 + 200) % 256) as u8
 }

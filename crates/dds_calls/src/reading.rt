@@ -256,6 +256,7 @@ fn with_another_byte(sort: Sort, k: usize) -> u8 {
 
 fn each_byte(rt: &impl Print, sort: Sort) -> io::Result<()> {
     print!(rt; "{sort}, each byte changed alone:")?;
+    // By place: that byte is changed.
     for k in 0..sort.length {
         print!(rt; " {}", with_another_byte(sort, k))?;
     }

@@ -20,26 +20,27 @@ number_in = answered number_of 0
 abbrev pub detail_after : Checked → List ℕ → List ℕ
 detail_after checked before = answered (λ q. detail_of q before) before checked
 
+-- What a lent place holds after a call: what `value` makes of the answer, or what it held before where the call refuses.
+abbrev pub after : {A B : Type 0} → (A → B) → Answer A → B → B
+after value (Ok a) before = value a
+after value (Err q) before = before
+
 abbrev pub block_after : Answer ℕ → List ℕ → List ℕ
-block_after (Ok b) before = bytes_of b
-block_after (Err q) before = before
+block_after = after bytes_of
 
 abbrev pub error_after : Answer Float → Float → Float
-error_after (Ok e) before = e
-error_after (Err q) before = before
+error_after = after (λ e. e)
 
 abbrev pub held_after : Answer Kept → List ℕ → List ℕ
-held_after (Ok h) before = bytes_of h.block
-held_after (Err q) before = before
+held_after = after (λ h. bytes_of h.block)
 
 -- 1 where the bytes are the fresh ones, else 0
 abbrev pub fresh_after : Answer Kept → ℕ → ℕ
-fresh_after (Ok h) before = cond h.fresh 1 0
-fresh_after (Err q) before = before
+fresh_after = after (λ h. cond h.fresh 1 0)
 
+-- of a tile or of a file
 abbrev pub written_after : Answer ℕ → ℕ → ℕ
-written_after (Ok n) before = n
-written_after (Err q) before = before
+written_after = after (λ n. n)
 
 abbrev pub offset_after : Checked → ℕ → ℕ → ℕ → ℕ → ℕ
 offset_after checked width column row before = answered (λ q. before) (block_at bc4_size width column row) checked

@@ -2,26 +2,18 @@
 use Rattle.dds.specs.declared.Picture.{Picture}
 use Rattle.std.specs.Prelude.{cond, ℕ}
 use Rattle.refusal.specs.Refusals.{Answer}
-use Rattle.std.specs.declared.result.Result.TheVariants.{Ok, Err}
-
-abbrev pub file_written_after : Answer ℕ → ℕ → ℕ
-file_written_after (Ok n) before = n
-file_written_after (Err q) before = before
+use Rattle.exports.specs.Border.{after}
 
 abbrev pub width_after : Answer Picture → ℕ → ℕ
-width_after (Ok p) before = p.width
-width_after (Err q) before = before
+width_after = after (λ p. p.width)
 
 abbrev pub height_after : Answer Picture → ℕ → ℕ
-height_after (Ok p) before = p.height
-height_after (Err q) before = before
+height_after = after (λ p. p.height)
 
 -- 1 where the blocks are signed, else 0
 abbrev pub snorm_after : Answer Picture → ℕ → ℕ
-snorm_after (Ok p) before = cond p.snorm 1 0
-snorm_after (Err q) before = before
+snorm_after = after (λ p. cond p.snorm 1 0)
 
 -- where the tile's bytes start
 abbrev pub start_after : Answer Picture → ℕ → ℕ
-start_after (Ok p) before = p.start
-start_after (Err q) before = before
+start_after = after (λ p. p.start)

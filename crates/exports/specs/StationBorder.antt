@@ -1,5 +1,5 @@
 -- How the answers of `station` cross to C: what became of a message, as a number. A refused call leaves it as it was.
-use Rattle.std.specs.declared.result.Result.TheVariants.{Ok, Err}
+use Rattle.exports.specs.Border.{after}
 use Rattle.std.specs.Prelude.{ℕ}
 use Rattle.refusal.specs.Refusals.{Answer}
 use Rattle.station.specs.declared.Received.{Received}
@@ -12,5 +12,4 @@ outcome_number Replaced = 3
 outcome_number Old = 4
 
 abbrev pub outcome_after : Answer Received → ℕ → ℕ
-outcome_after (Ok received) before = outcome_number received
-outcome_after (Err q) before = before
+outcome_after = after outcome_number

@@ -8,7 +8,7 @@ ghost use Rattle.bc4.specs.Calls.{samples_after, error_answer, out_after};
 ghost use Rattle.bc4.specs.Word.{encode_by_word, resend_by_word, tile_by_word};
 ghost use Rattle.dds.specs.Calls.{write_answer, file_after, read_answer};
 ghost use Rattle.exports.specs.Border.{word_of_number, number_in, detail_after, block_after, error_after, held_after, fresh_after, written_after, offset_after};
-ghost use Rattle.exports.specs.DdsBorder.{file_written_after, width_after, height_after, snorm_after, start_after};
+ghost use Rattle.exports.specs.DdsBorder.{width_after, height_after, snorm_after, start_after};
 
 mod channels;
 mod messages;
@@ -147,7 +147,8 @@ pub extern "C" fn bc4_encode_tile(
     }
 }
 
-// Where the block's eight bytes start in the tile: a part of a slice does not cross to C.
+// Where the block's eight bytes start in the tile: a part of a slice does not cross to C. This and `bc5_block_view` are two of C's calls, a line each over
+// `place::block_at`.
 #[unsafe(no_mangle)]
 pub extern "C" fn bc4_block_view(
     tile: &[u8],
@@ -183,7 +184,7 @@ pub extern "C" fn bc4_write_dds(
 ) -> u32
     ensures number { result ≡ number_in (refusal_in (write_answer (length tile.now) width height (length out.old))) }
     ensures bytes { out.new ≡ file_after (write_answer (length tile.now) width height (length out.old)) tile.now width height snorm out.old }
-    ensures written { written.new ≡ file_written_after (write_answer (length tile.now) width height (length out.old)) written.old }
+    ensures written { written.new ≡ written_after (write_answer (length tile.now) width height (length out.old)) written.old }
     ensures detail { detail.new ≡ detail_after (refusal_in (write_answer (length tile.now) width height (length out.old))) detail.old }
 {
     match dds::write(tile, width, height, snorm, out) {

@@ -37,7 +37,7 @@ pub extern "C" fn bc4_receive(
     }
 }
 
-// What became of a message, as a number.
+// What became of a message, as C gets it: a number.
 fn number_of(received: Received) -> u8
     ensures { result ≡ outcome_number received }
 {

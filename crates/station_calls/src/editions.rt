@@ -52,6 +52,7 @@ fn every_turn(rt: &impl Print) -> io::Result<()> {
 
 // The same edition, and one byte of eight is another.
 fn each_byte(rt: &impl Print) -> io::Result<()> {
+    // By place: that byte is another.
     for k in 0..8 {
         let mut sent = line::eight(10);
         sent[k] = 0xff;
