@@ -14,11 +14,12 @@ fn no_nans(first: &[f32], second: &[f32]) -> Result<(), Refusal>
     refusal::no_nan_in(Channel::Second, second)
 }
 
+#[tactic(auto, using(place::proofs::Places::size_good))]
 fn no_tile_nans(first: &[f32], second: &[f32], size: Size) -> Result<(), Refusal>
     ensures { result ≡ first_of (tile_nan_checks first.now second.now size.width) }
 {
-    refusal::no_tile_nan_in(Channel::First, first, size)?;
-    refusal::no_tile_nan_in(Channel::Second, second, size)
+    refusal::no_tile_nan_in(Channel::First, first, size.width)?;
+    refusal::no_tile_nan_in(Channel::Second, second, size.width)
 }
 
 #[tactic(auto, unfolding(refusal::specs::Refusals::first_of))]

@@ -10,9 +10,8 @@ ghost use Rattle.bcn_util.specs.Dither.{block_dither};
 use index_list::IndexList;
 use palette::{Indexed, Palette};
 
-// In sixteenths, a row for each column and one for the last row: right, next left, next middle, next right. A static: a constant array that is read in a
-// loop is built anew at each turn.
-static WEIGHTS: [f32; 20] = [
+// In sixteenths, a row for each column and one for the last row: right, next left, next middle, next right.
+pub const WEIGHTS: [f32; 20] = [
     7.0 / 16.0,
     0.0,
     6.0 / 16.0,
@@ -35,6 +34,9 @@ static WEIGHTS: [f32; 20] = [
     0.0,
 ];
 
+// The same for loops: a constant array that is read in one is built anew at each turn.
+static TABLE: [f32; 20] = WEIGHTS;
+
 // Where the block has no pixel i + n nothing is given.
 fn give(there: bool, m: &mut [f32; 16], i: usize, n: usize, v: f32)
     requires { there ≡ true → i + n < 16 }
@@ -52,7 +54,7 @@ fn part(row: usize, k: usize, error: f32) -> f32
     requires { (row < 5) × (k < 4) }
     ensures { result ≡ error ⊗ get_or weights (4 * row + k) nan }
 {
-    error * WEIGHTS[4 * row + k]
+    error * TABLE[4 * row + k]
 }
 
 // The error map after pixel i was off by `error`.

@@ -56,6 +56,9 @@ pub fn put(size: Size, snorm: bool, out: &mut [u8])
     requires { header_length ≤ length out.old }
     ensures { out.new ≡ header_of size.width size.height snorm ++ drop header_length out.old }
 {
-    let fields = fields_of(size, snorm).map(fields::bytes_u32);
-    out[..LENGTH].copy_from_slice(fields.as_flattened());
+    // By `map` and `as_flattened` the header takes four times as many instructions: the elements wait in an `IntoIter`.
+    let all = fields_of(size, snorm);
+    for (k, field) in all.iter().enumerate() {
+        out[4 * k..4 * k + 4].copy_from_slice(&fields::bytes_u32(*field));
+    }
 }

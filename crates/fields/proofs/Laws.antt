@@ -4,12 +4,30 @@ use mathlib.Core.List.{List, [], ◌∷◌}
 use Prim.Native.Nat.{ℕ, zero, suc, ◌+◌, ◌-◌, ◌*◌, ◌/◌, ◌%◌, ◌^◌, ◌<◌, ◌≤◌}
 use native.Mathlib.Nat.{mod-eq_of_lt}
 use native.Mathlib.Omega.{arith}
-use lib.ListN.{take, drop}
+use lib.ListN.{length, take, drop, get_or}
+use lib.Seq.{drop-cons}
 use lib.Pow.{mod-pow-add, mod-mod-pow, pow_pos}
 use Rattle.index_list.specs.Layout.{bytes_of, from_bytes, AllBytes}
 use Rattle.index_list.proofs.Laws.{from_bytes_of}
 use Rattle.index_list.proofs.ReadBack.{bytes_all}
 use Rattle.fields.specs.Fields.{field_at, field_of}
+
+-- A field is its first byte and the field after that.
+field_more : (n : ℕ) (bytes : List ℕ) (at next : ℕ) → at < length bytes → suc at ≡ next → field_at (suc n) bytes at ≡ get_or bytes at 0 + 2 ^ 8 * field_at n bytes next
+unfolding from_bytes
+field_more n bytes at next h e = rw (drop-cons bytes at 0 h, e)
+
+pub four_bytes : (bytes : List ℕ) (at : ℕ) → at + 4 ≤ length bytes
+    → field_at 4 bytes at ≡ get_or bytes at 0 + 2 ^ 8 * (get_or bytes (at + 1) 0 + 2 ^ 8 * (get_or bytes (at + 2) 0 + 2 ^ 8 * get_or bytes (at + 3) 0))
+unfolding from_bytes
+four_bytes bytes at h =
+    omega (
+      arith,
+      field_more 3 bytes at (at + 1) (omega arith) (omega arith),
+      field_more 2 bytes (at + 1) (at + 2) (omega arith) (omega arith),
+      field_more 1 bytes (at + 2) (at + 3) (omega arith) (omega arith),
+      field_more 0 bytes (at + 3) (at + 4) (omega arith) (omega arith),
+    )
 
 -- the number of the first n bytes
 from_take : (n : ℕ) (bs : List ℕ) → AllBytes bs → from_bytes (take n bs) ≡ from_bytes bs % 2 ^ (8 * n)

@@ -8,7 +8,7 @@ use lib.Ieee.Nearest.{div_mono}
 use lib.Ieee.Casts.{to_unsigned-lt}
 use mir.ValLaws.{to_z-of_z}
 use borrow.Author.Tests.{lt-leb}
-use Rattle.floats.specs.Arithmetic.{bits, whole, f0, f1, f2^23}
+use Rattle.floats.specs.Arithmetic.{bits, whole, f0, f1, f255, f2^23}
 use Rattle.floats.specs.Helpers.{lane_min, lane_max, byte_of, byte_up_to7}
 use Rattle.floats.proofs.Tests.{so, iff, clash, leb_not_ltb}
 use Rattle.floats.proofs.Fractions.{le_plain}
@@ -104,7 +104,14 @@ unfolding of_bits
 at_1 x = threshold 8 1 0 x (lit< tt) (lit< tt)
 
 -- ---- the cast to a byte
-byte_empty : (x : Float) → le f1 x ≡ false → 0 ≡ byte_of x
+at_255 : (x : Float) → le f255 x ≡ leb 255 (byte_of x)
+unfolding of_bits
+at_255 x = threshold 8 255 0 x (lit< tt) (lit< tt)
+
+pub byte_full : (x : Float) → le f255 x ≡ true → 255 ≡ byte_of x
+byte_full x h = let g : 255 ≤ byte_of x = leb-true _ _ (sym (at_255 x) ∙ h) in let l : byte_of x ≤ 255 = byte_of_le x in omega arith
+
+pub byte_empty : (x : Float) → le f1 x ≡ false → 0 ≡ byte_of x
 byte_empty x h = let g : byte_of x < 1 = leb-false _ _ (sym (at_1 x) ∙ h) in omega arith
 
 byte_narrow : (x : Float) → byte_of x ≡ min (to_unsigned 64 x) 255

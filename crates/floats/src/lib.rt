@@ -83,11 +83,18 @@ pub fn trunc(x: f32) -> f32
     pick((x != 0.0) & (-8388608.0 < x) & (x < 8388608.0), cut, x)
 }
 
-// Rust's `x as u8`.
+// Rust's `x as u8`. What is out of range is told by a test: std's cast goes its whole way for it too.
+#[tactic(auto, using(crate::proofs::Casts::byte_full, crate::proofs::Casts::byte_empty))]
 pub fn byte_of(x: f32) -> u8
     ensures { result ≡ byte_of x }
 {
-    std::num::saturating_f32_to_u8(x)
+    if x >= 255.0 {
+        return 255;
+    }
+    if x >= 1.0 {
+        return std::num::saturating_f32_to_u8(x);
+    }
+    0
 }
 
 // A count of one, for a sum of tests.

@@ -20,8 +20,8 @@ const F5: f32 = 5.0 / 7.0;
 
 const F6: f32 = 6.0 / 7.0;
 
-// A static: a constant array that is read in a loop is built anew at each turn.
-static INDEX_MAP: [u8; 8] = [1, 7, 6, 5, 4, 3, 2, 0];
+// INDEX_MAP for loops: a constant array that is read in one is built anew at each turn.
+static MAP: [u8; 8] = Inter6Palette::INDEX_MAP;
 
 // The weight of a blend above -1, by the cut of `closest`.
 pub fn cut_weight(blend: f32) -> f32
@@ -63,6 +63,8 @@ pub struct Inter6Palette {
 }
 
 impl Inter6Palette {
+    pub const INDEX_MAP: [u8; 8] = [1, 7, 6, 5, 4, 3, 2, 0];
+
     #[tactic(auto, unfolding(crate::specs::Palettes::inter6_palette))]
     pub fn new(c0: f32, c1: f32) -> Self
         ensures { result ≡ inter6_palette c0 c1 }
@@ -168,7 +170,7 @@ impl Palette for Inter6Palette {
         let k = self.blend7(pixel);
         let value = self.value(pixel);
         Closest {
-            index: INDEX_MAP[k as usize],
+            index: MAP[k as usize],
             value,
             error: floats::abs(pixel - value),
         }

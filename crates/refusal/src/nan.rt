@@ -1,5 +1,5 @@
 // The first sample that is NaN.
-ghost use Rattle.std.specs.Prelude.{◌≡◌, [], ◌∷◌, ltb, length, if◌then◌else◌};
+ghost use Rattle.std.specs.Prelude.{◌≡◌, [], ◌∷◌, ◌<◌, ltb, length, if◌then◌else◌};
 ghost use Rattle.std.specs.declared.option.Option.TheVariants.{Some, None};
 ghost use Rattle.refusal.specs.Refusals.{first_of, first_nan, nan_check, nan_in, spot_of, tile_nan_check, tile_nan_in};
 
@@ -31,14 +31,15 @@ fn first_nan(samples: &[f32]) -> Option<usize>
 }
 
 // Where it stands in a tile.
-fn first_spot(samples: &[f32], size: Size) -> Option<Spot>
-    ensures { result ≡ (if ltb (first_nan samples.now) (length samples.now) then Some (spot_of size.width (first_nan samples.now)) else None) }
+fn first_spot(samples: &[f32], width: usize) -> Option<Spot>
+    requires { 0 < width }
+    ensures { result ≡ (if ltb (first_nan samples.now) (length samples.now) then Some (spot_of width (first_nan samples.now)) else None) }
 {
     let index = first_nan(samples)?;
     Some(Spot {
         index,
-        row: index / size.width,
-        column: index % size.width,
+        row: index / width,
+        column: index % width,
     })
 }
 
@@ -53,11 +54,11 @@ pub fn no_nan(samples: &[f32]) -> Result<(), Refusal>
     }
 }
 
-#[tactic(auto, unfolding(crate::specs::Refusals::first_of))]
+#[tactic(auto, using(place::proofs::Places::size_good), unfolding(crate::specs::Refusals::first_of))]
 pub fn no_tile_nan(samples: &[f32], size: Size) -> Result<(), Refusal>
     ensures { result ≡ first_of (tile_nan_check samples.now size.width ∷ []) }
 {
-    match first_spot(samples, size) {
+    match first_spot(samples, size.width) {
         Some(spot) => Err(Refusal::TileSampleIsNan(spot)),
         None => Ok(()),
     }
@@ -75,10 +76,11 @@ pub fn no_nan_in(channel: Channel, samples: &[f32]) -> Result<(), Refusal>
 }
 
 #[tactic(auto, unfolding(crate::specs::Refusals::first_of))]
-pub fn no_tile_nan_in(channel: Channel, samples: &[f32], size: Size) -> Result<(), Refusal>
-    ensures { result ≡ first_of (tile_nan_in channel samples.now size.width ∷ []) }
+pub fn no_tile_nan_in(channel: Channel, samples: &[f32], width: usize) -> Result<(), Refusal>
+    requires { 0 < width }
+    ensures { result ≡ first_of (tile_nan_in channel samples.now width ∷ []) }
 {
-    match first_spot(samples, size) {
+    match first_spot(samples, width) {
         Some(spot) => Err(Refusal::InChannel(Fault::TileNan(channel, spot))),
         None => Ok(()),
     }

@@ -3,7 +3,7 @@
 #![tactic(auto)]
 
 ghost use Rattle.std.specs.Prelude.{◌≡◌, ◌+◌, ◌≤◌, ◌<◌, length, IfOk};
-ghost use Rattle.replay.specs.Entry.{differs_of, tallied};
+ghost use Rattle.replay.specs.Entry.{rust_of, differs_of, tallied};
 
 use std::io;
 use std::io::Write;
@@ -18,14 +18,22 @@ struct Tally {
     differ: u64,
 }
 
+// The eight bytes that the Rust gave as one number, byte 0 lowest.
+fn rust(entry: &[u8; 76]) -> u64
+    ensures { result ≡ rust_of entry.now }
+{
+    let low = fields::read_u32(entry, 68);
+    let high = fields::read_u32(entry, 72);
+    u64::from(low) + 4294967296 * u64::from(high)
+}
+
 // A record that is refused differs: the Rust refuses none.
 fn differs(entry: &[u8; 76]) -> bool
     ensures { result ≡ differs_of entry.now }
 {
     let record = entry.first_chunk::<68>().unwrap();
-    let rust = u64::from_le_bytes(*entry.last_chunk::<8>().unwrap());
     match lines::answer_to(record) {
-        Ok(block) => block != rust,
+        Ok(block) => block != rust(entry),
         Err(_) => true,
     }
 }

@@ -1,18 +1,24 @@
--- `dds::header::put` meets its contract: the bytes of the fields, one after the other.
+-- `dds::header::put` meets its contract: field after field goes to its place.
+use mathlib.Core.Path.{◌≡◌, refl, ap, ◌∙◌}
+use Prim.Native.Nat.{◌+◌, ◌*◌, ◌-◌}
 use native.Mathlib.Omega.{arith}
-use lib.ListN.{length-take}
-use Rattle.std.proofs.Common.{rules, [], refl}
+use lib.ListN.{get_or}
 use Rattle.fields.specs.Fields.{field_of}
-use Rattle.fields.proofs.Mapped.{mapped}
-use Rattle.place.specs.Place.{joined}
+use Rattle.place.proofs.Joined.{grown_start, grown_step}
 use Rattle.dds.specs.Layout.{header_of}
 use Rattle.dds.proofs.header.put.Goals as goal
 
-pub copy_from_slice-requires : goal.copy_from_slice-requires
-copy_from_slice-requires c = simp length-take (omega (arith, c.as_flattened.ensures.len, c.map-fields.ensures.items.long))
+pub loop-k-init : goal.loop-k-init
+loop-k-init c = grown_start
+
+pub loop-k-preserved : goal.loop-k-preserved
+loop-k-preserved c =
+    let k = c.loop-k.k in
+    let made = c.copy_from_slice.ensures.after ∙ c.bytes_u32.ensures ∙ ap (λ all. field_of 4 (get_or all k 0)) c.fields_of-all.ensures in
+    grown_step (λ k. refl) c.loop-k.invariant (4 * k) (4 * k + 4 - 4 * k) _ (omega arith) (omega arith) made (omega arith)
 
 pub returns : goal.returns
-unfolding header_of joined
+unfolding header_of
 returns c =
-    let made = mapped _ (field_of 4) 0 [] (λ p q x y k. search rules) (search rules) c.map-fields.ensures.items in
-    rw (c.copy_from_slice.ensures.after, c.as_flattened.ensures.value, made, c.fields_of.ensures) refl
+    let e : c.loop-k.k ≡ 32 = omega arith in
+    rw e at c.loop-k.invariant.same
